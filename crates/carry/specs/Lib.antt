@@ -1,0 +1,10 @@
+pub mod Kinds
+pub mod Turns
+pub mod Digits
+pub mod Corners
+pub mod Webs
+pub mod Counting
+pub mod Agreement
+pub mod Lists
+pub mod Carrying
+pub mod Walks
