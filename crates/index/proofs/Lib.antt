@@ -1,0 +1,4 @@
+pub mod Total
+pub mod Places
+pub mod Shift
+pub mod Stores

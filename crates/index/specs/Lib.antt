@@ -1,0 +1,5 @@
+pub mod Orders
+pub mod Keys
+pub mod Entries
+pub mod Held
+pub mod Search
