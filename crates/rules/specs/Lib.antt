@@ -1,0 +1,12 @@
+pub mod Rows
+pub mod Readings
+pub mod Joins
+pub mod Listings
+pub mod PlainList
+pub mod Questions
+pub mod Tests
+pub mod Nets
+pub mod NetTests
+pub mod Orients
+pub mod Soundness
+pub mod Pits
