@@ -1,0 +1,12 @@
+mod Records
+mod Turned
+mod Viewed
+mod Laid
+mod Removed
+mod Faces
+mod Shared
+mod Partnered
+mod Joining
+mod Asked
+mod Telling
+mod Grounds

@@ -1,0 +1,5 @@
+pub mod Records
+pub mod Searches
+pub mod Listed
+pub mod Grounds
+pub mod Nets
