@@ -1,0 +1,9 @@
+mod Orders
+mod Lookups
+mod Offers
+mod HandingOver
+mod Outcomes
+mod HalfFaces
+mod Rules
+mod Triangles
+mod EdgePairs

@@ -1,0 +1,5 @@
+pub mod Rule
+pub mod Lists
+pub mod Faces
+pub mod Edges
+pub mod Gathered
