@@ -1,4 +1,6 @@
 //! Labels carried over the joins of any net.
+#![tactic(auto)]
+
 mod corner;
 mod label;
 mod labelling;

@@ -1,4 +1,6 @@
 //! The worked examples of the rules: most are proved, and the rest are run here.
+#![tactic(auto)]
+
 mod table;
 
 use carry::Turn;

@@ -1,4 +1,6 @@
 //! The tests of the crates that know nothing of cells, in a crate of their own so that those are proved once.
+#![tactic(auto)]
+
 #[cfg(test)]
 mod carry_tests;
 #[cfg(test)]

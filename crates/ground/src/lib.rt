@@ -1,4 +1,6 @@
 //! The ground round a tank: tetrahedra with their half-faces joined, open for changes or sealed for questions.
+#![tactic(auto)]
+
 mod cell;
 mod cells;
 mod counts;

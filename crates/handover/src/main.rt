@@ -1,5 +1,7 @@
 //! handover: a station's model from the first cell to the second tank, as a journal of calls that is
 //! replayed and printed line by line.
+#![tactic(auto)]
+
 mod pit;
 mod show;
 

@@ -1,4 +1,6 @@
 //! The face index and the edge index of a sealed ground.
+#![tactic(auto)]
+
 mod edges;
 mod faces;
 mod halves;

@@ -1,4 +1,6 @@
 //! Journals of calls, and the call that replays one.
+#![tactic(auto)]
+
 mod answers;
 mod calls;
 mod change;

@@ -1,4 +1,6 @@
 //! Mates on the skin of a sealed ground, which is asked by its public questions.
+#![tactic(auto)]
+
 mod edge;
 mod halves;
 mod mating;

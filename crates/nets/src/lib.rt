@@ -1,5 +1,7 @@
 //! Nets over a sealed ground, which they ask by its public questions: the corner net, and soundness
 //! by the star net.
+#![tactic(auto)]
+
 mod corner_step;
 mod corners;
 mod edges;

@@ -1,4 +1,6 @@
 //! The tests of the ground and of what stands on it, in a crate of their own so that those are proved once.
+#![tactic(auto)]
+
 #[cfg(test)]
 mod ground_calls;
 #[cfg(test)]

@@ -1,4 +1,6 @@
 //! pitlist: reads a work list from standard input and prints a line of answer for each order.
+#![tactic(auto)]
+
 use anyhow::anyhow;
 use ground::{Cell, make};
 use refusal::Refusal;

@@ -1,4 +1,6 @@
 //! Why a call says no: one list of causes for the whole project.
+#![tactic(auto)]
+
 ghost use Rattle.std.specs.Prelude.{◌≡◌};
 ghost use Rattle.refusal.specs.Numbers.{number_of};
 

@@ -1,4 +1,6 @@
 //! One order of a work list carried out on a ground, and the line of its answer.
+#![tactic(auto)]
+
 ghost use Rattle.std.specs.Prelude.{◌≡◌, ℕ, List, [], ◌∷◌, codes, slice_index};
 ghost use Rattle.refusal.specs.Numbers.{number_of};
 ghost use Rattle.rules.specs.Rows.{row};

@@ -1,4 +1,6 @@
 //! The skin net of a sealed ground: the skin triangles, joined where they are mates.
+#![tactic(auto)]
+
 mod build;
 mod directions;
 mod net;

@@ -1,4 +1,6 @@
 //! The two stages of a ground: changed while it is open, asked while it is sealed.
+#![tactic(auto)]
+
 use ground::{Cell, Sealed, make};
 
 fn show(rt: &impl Print, ground: &Sealed) -> anyhow::Result<()> {

@@ -1,4 +1,6 @@
 //! Work lists: how orders are written, the reader of a list, and the lines of answers. Nothing here allocates.
+#![tactic(auto)]
+
 mod answer;
 mod cut;
 mod fault;
