@@ -12,10 +12,10 @@ use refusal::Refusal;
 
 /// Whether the labels agree over each joined side of `item`.
 fn agrees_at<N: Net>(net: &N, labels: &[N::Label], item: usize) -> bool
-    requires sound { Sound (web net.now) N.Label.Label.kind }
-    requires state { ((web net.now).items ≤ length labels.now) × (item < (web net.now).items) }
-    ensures agrees { result ≡ true → AgreesAt (web net.now) N.Label.Label.kind (map N.Label.Label.meaning labels.now) item }
-    ensures fails { result ≡ false → AgreesAt (web net.now) N.Label.Label.kind (map N.Label.Label.meaning labels.now) item → ⊥ }
+    requires sound { Sound (N.web net.now) N.Label.Label.kind }
+    requires state { ((N.web net.now).items ≤ length labels.now) × (item < (N.web net.now).items) }
+    ensures agrees { result ≡ true → AgreesAt (N.web net.now) N.Label.Label.kind (map N.Label.Label.meaning labels.now) item }
+    ensures fails { result ≡ false → AgreesAt (N.web net.now) N.Label.Label.kind (map N.Label.Label.meaning labels.now) item → ⊥ }
 {
     let here = labels[item];
     for side in 0..net.side_count() {
@@ -32,10 +32,10 @@ fn agrees_at<N: Net>(net: &N, labels: &[N::Label], item: usize) -> bool
 
 /// Whether the labels agree over each joined side of each item.
 fn agrees<N: Net>(net: &N, labels: &[N::Label], count: usize) -> bool
-    requires sound { Sound (web net.now) N.Label.Label.kind }
-    requires state { (count ≡ (web net.now).items) × (count ≤ length labels.now) }
-    ensures agrees { result ≡ true → Agrees (web net.now) N.Label.Label.kind (map N.Label.Label.meaning labels.now) }
-    ensures fails { result ≡ false → Agrees (web net.now) N.Label.Label.kind (map N.Label.Label.meaning labels.now) → ⊥ }
+    requires sound { Sound (N.web net.now) N.Label.Label.kind }
+    requires state { (count ≡ (N.web net.now).items) × (count ≤ length labels.now) }
+    ensures agrees { result ≡ true → Agrees (N.web net.now) N.Label.Label.kind (map N.Label.Label.meaning labels.now) }
+    ensures fails { result ≡ false → Agrees (N.web net.now) N.Label.Label.kind (map N.Label.Label.meaning labels.now) → ⊥ }
 {
     for item in 0..count {
         if !agrees_at(net, labels, item) {
@@ -48,7 +48,7 @@ fn agrees<N: Net>(net: &N, labels: &[N::Label], count: usize) -> bool
 /// Makes the labels below `count` neutral.
 fn blank<L: Label + Copy>(labels: &mut [L], count: usize)
     requires { count ≤ length labels.old }
-    ensures neutral { (i : ℕ) → i < count → slice_index (map meaning labels.new) i ≡ kind.neutral }
+    ensures neutral { (i : ℕ) → i < count → slice_index (map L.meaning labels.new) i ≡ L.kind.neutral }
     ensures rest { drop count labels.new ≡ drop count labels.old }
 {
     for i in 0..count {
@@ -63,7 +63,7 @@ fn blank<L: Label + Copy>(labels: &mut [L], count: usize)
 /// over which no labels agree, and leaves neutral labels then. What the lists hold before does not
 /// matter, the marks below the item count are zero afterwards, and places beyond it stay untouched.
 pub fn carry<N: Net>(net: &N, labels: &mut [N::Label], marks: &mut [u8]) -> Result<usize, Refusal>
-    ensures { Carried (web net.now) N.Label.Label.kind N.Label.Label.meaning labels.old marks.old labels.new marks.new result }
+    ensures { Carried (N.web net.now) N.Label.Label.kind N.Label.Label.meaning labels.old marks.old labels.new marks.new result }
 {
     let count = net.count();
     if labels.len() < count || marks.len() < count {

@@ -25,10 +25,10 @@ fn forward<N: Net>(
     item: usize,
     side: usize,
 ) -> usize
-    requires sound { Sound (web net.now) N.Label.Label.kind }
-    requires state { (item < (web net.now).items) × (((web net.now).items ≤ length labels.old) × ((web net.now).items ≤ length marks.old)) }
-    ensures tried { Tried (web net.now) N.Label.Label.kind item side marks.old (map N.Label.Label.meaning labels.old) marks.new (map N.Label.Label.meaning labels.new) result }
-    ensures rest { drop (web net.now).items labels.new ≡ drop (web net.now).items labels.old }
+    requires sound { Sound (N.web net.now) N.Label.Label.kind }
+    requires state { (item < (N.web net.now).items) × (((N.web net.now).items ≤ length labels.old) × ((N.web net.now).items ≤ length marks.old)) }
+    ensures tried { Tried (N.web net.now) N.Label.Label.kind item side marks.old (map N.Label.Label.meaning labels.old) marks.new (map N.Label.Label.meaning labels.new) result }
+    ensures rest { drop (N.web net.now).items labels.new ≡ drop (N.web net.now).items labels.old }
 {
     match net.join(item, side) {
         Some(p) => {
@@ -48,10 +48,10 @@ fn forward<N: Net>(
 /// One move of a walk that stands at `item`: where it stands then, or nothing where the piece is
 /// done.
 fn advance<N: Net>(net: &N, labels: &mut [N::Label], marks: &mut [u8], item: usize) -> Option<usize>
-    requires sound { Sound (web net.now) N.Label.Label.kind }
-    requires state { (Walking (web net.now) marks.old item) × ((web net.now).items ≤ length labels.old) }
-    ensures advanced { Advanced (web net.now) N.Label.Label.kind marks.old (map N.Label.Label.meaning labels.old) marks.new (map N.Label.Label.meaning labels.new) result }
-    ensures rest { drop (web net.now).items labels.new ≡ drop (web net.now).items labels.old }
+    requires sound { Sound (N.web net.now) N.Label.Label.kind }
+    requires state { (Walking (N.web net.now) marks.old item) × ((N.web net.now).items ≤ length labels.old) }
+    ensures advanced { Advanced (N.web net.now) N.Label.Label.kind marks.old (map N.Label.Label.meaning labels.old) marks.new (map N.Label.Label.meaning labels.new) result }
+    ensures rest { drop (N.web net.now).items labels.new ≡ drop (N.web net.now).items labels.old }
 {
     let mark = marks[item];
     let side = (mark / DONE) as usize;
@@ -72,12 +72,12 @@ fn advance<N: Net>(net: &N, labels: &mut [N::Label], marks: &mut [u8], item: usi
 
 /// Labels and marks the piece of `root`, which is not met yet.
 fn piece<N: Net>(net: &N, labels: &mut [N::Label], marks: &mut [u8], root: usize)
-    requires sound { Sound (web net.now) N.Label.Label.kind }
-    requires state { (Rests (web net.now) marks.old) × (((web net.now).items ≤ length labels.old) × ((root < (web net.now).items) × (slice_index marks.old root ≡ 0))) }
-    ensures rests { Rests (web net.now) marks.new }
-    ensures grown { Grown (web net.now) N.Label.Label.kind root marks.old (map N.Label.Label.meaning labels.old) marks.new (map N.Label.Label.meaning labels.new) }
-    ensures past { drop (web net.now).items marks.new ≡ drop (web net.now).items marks.old }
-    ensures rest { drop (web net.now).items labels.new ≡ drop (web net.now).items labels.old }
+    requires sound { Sound (N.web net.now) N.Label.Label.kind }
+    requires state { (Rests (N.web net.now) marks.old) × (((N.web net.now).items ≤ length labels.old) × ((root < (N.web net.now).items) × (slice_index marks.old root ≡ 0))) }
+    ensures rests { Rests (N.web net.now) marks.new }
+    ensures grown { Grown (N.web net.now) N.Label.Label.kind root marks.old (map N.Label.Label.meaning labels.old) marks.new (map N.Label.Label.meaning labels.new) }
+    ensures past { drop (N.web net.now).items marks.new ≡ drop (N.web net.now).items marks.old }
+    ensures rest { drop (N.web net.now).items labels.new ≡ drop (N.web net.now).items labels.old }
 {
     labels[root] = <N::Label as Label>::neutral();
     marks[root] = ROOT;
@@ -94,9 +94,9 @@ pub(crate) fn spread<N: Net>(
     marks: &mut [u8],
     count: usize,
 ) -> usize
-    requires sound { Sound (web net.now) N.Label.Label.kind }
-    requires state { (count ≡ (web net.now).items) × ((count ≤ length labels.old) × ((count ≤ length marks.old) × (((i : ℕ) → i < count → slice_index marks.old i ≡ 0)))) }
-    ensures spread { Spread (web net.now) N.Label.Label.kind (map N.Label.Label.meaning labels.new) result }
+    requires sound { Sound (N.web net.now) N.Label.Label.kind }
+    requires state { (count ≡ (N.web net.now).items) × ((count ≤ length labels.old) × ((count ≤ length marks.old) × (((i : ℕ) → i < count → slice_index marks.old i ≡ 0)))) }
+    ensures spread { Spread (N.web net.now) N.Label.Label.kind (map N.Label.Label.meaning labels.new) result }
     ensures past { drop count marks.new ≡ drop count marks.old }
     ensures rest { drop count labels.new ≡ drop count labels.old }
 {

@@ -3,7 +3,7 @@ use Rattle.carry.specs.declared.net.Place.{Place}
 use Rattle.std.proofs.lemmas.Bool.{cases_eq}
 use Rattle.carry.proofs.Lists.{read}
 use Rattle.carry.proofs.labelling.agrees_at.Goals as goal
-use Rattle.carry.proofs.labelling.agrees_at.Goals.{in-Some+else-not-same, in-default}
+use Rattle.carry.proofs.labelling.agrees_at.Goals.{in-Some+else-not-same, in_default}
 
 pub offset-bounds-labels-p : goal.offset-bounds-labels-p
 offset-bounds-labels-p g c =
@@ -61,7 +61,7 @@ loop-side-preserved g c =
           let ok = v.same.ensures.only v.if-not-same.false in
           let fin : get_or (map f xs) q.item 0 ≡ k.combined (get_or (map f xs) c.args.item 0) (w.steps c.args.item c.loop-side.side) = cc in
           subst (λ (z : Place). get_or (map f xs) z.item 0 ≡ k.combined (get_or (map f xs) c.args.item 0) (w.steps c.args.item c.loop-side.side)) pq fin)
-      | in-default v ↦ (λ p e. absurd (v.in-default.not-Some p (c.join.ensures ∙ e)))
+      | in_default v ↦ (λ p e. absurd (v.in-default.not-Some p (c.join.ensures ∙ e)))
     ] in
     λ t less. elim (cases_eq t c.loop-side.side) [
       | inl z ↦ subst Good (sym z) now

@@ -33,4 +33,4 @@ returns c =
     let p = digit (number s.a s.b s.c s.d) in
     let ds = own_digits o.a o.b o.c o.d o.lawful in
     numbers _ _ _ _ _ _ _ _
-    (c.digit-at.ensures ∙ sym (ap p ds.0)) (c.digit-at-2.ensures ∙ sym (ap p ds.1)) (c.digit-at-3.ensures ∙ sym (ap p ds.2)) (c.digit-at-4.ensures ∙ sym (ap p ds.3))
+    (c.digit_at.ensures ∙ sym (ap p ds.0)) (c.digit_at-2.ensures ∙ sym (ap p ds.1)) (c.digit_at-3.ensures ∙ sym (ap p ds.2)) (c.digit-at-4.ensures ∙ sym (ap p ds.3))

@@ -14,4 +14,4 @@ invariant-of-result c =
 pub returns : goal.returns
 unfolding undone
 returns c =
-    numbers _ _ _ _ _ _ _ _ c.place-of.ensures c.place-of-2.ensures c.place-of-3.ensures c.place-of-4.ensures
+    numbers _ _ _ _ _ _ _ _ c.place_of.ensures c.place_of-2.ensures c.place_of-3.ensures c.place-of-4.ensures

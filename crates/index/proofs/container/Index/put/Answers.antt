@@ -26,5 +26,5 @@ returns g c =
     let o = g.K.Key.order in
     let ps = c.args.self.now.places.now in
     let e = c.args.entry in
-    subst (λ (h : Held _). Rising o h.entries → NoCause (PutCause o e h) × Stored o e h (parted c.in-ok-self.field-0 c.write.new.places))
-    (parted_within c.args.self.now.taken c.len-len.result ps c.len-len.ensures) c.in-ok-self.ensures
+    subst (λ (h : Held _). Rising o h.entries → NoCause (PutCause o e h) × Stored o e h (parted c.in_ok-self.field-0 c.write.new.places))
+    (parted_within c.args.self.now.taken c.len-len.result ps c.len-len.ensures) c.in_ok-self.ensures
