@@ -3,5 +3,4 @@ pub mod Ways
 pub mod Moves
 pub mod Sweep
 pub mod Judgement
-pub mod FourDigits
 pub mod Verdicts

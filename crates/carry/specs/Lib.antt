@@ -9,3 +9,5 @@ pub mod Lists
 pub mod Carrying
 pub mod Walks
 pub mod TurnLabelLemmas
+pub mod FourDigits
+pub mod CornerGroup

@@ -1,7 +1,6 @@
 //! The corner label: four different digits from 0 to 3, digit k being the colour of corner k.
 ghost use Rattle.std.specs.Prelude.{◌≡◌, ◌<◌, true, false, Some, None};
 ghost use Rattle.carry.specs.Digits.{different, digit, digits, number, place, corner_kind};
-ghost use Rattle.std.proofs.Common.{rules, arith};
 
 use crate::label::Label;
 
@@ -83,7 +82,9 @@ impl Label for Corner {
 
     ghost kind = { corner_kind };
 
-    ghost group = { first_of (Prim.search rules, Prim.grind (arith, Self.row.coded.inj)) };
+    ghost use Rattle.carry.specs.CornerGroup.{corner_group};
+
+    ghost group = { corner_group };
 
     fn neutral() -> Corner {
         Corner {

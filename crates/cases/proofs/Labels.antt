@@ -12,7 +12,7 @@ use Rattle.carry.specs.Digits.{number}
 use Rattle.carry.specs.Turns.{turn_meaning}
 use Rattle.carry.specs.Webs.{Web}
 use Rattle.carry.specs.Agreement.{Agreeing, NoneAgree}
-use Rattle.carry.proofs.FourDigits.{all, all_at}
+use Rattle.carry.specs.FourDigits.{all, all_at}
 use Rattle.rules.specs.Joins.{NoThree}
 use Rattle.rules.specs.PlainList.{Plain}
 use Rattle.rules.specs.Nets.{JoinedSides, CellWeb, CornerWeb, TurnWeb, TurnsAgree, TurnedMany, AllDiffer, NoChoice, Orientation, turned_by}

@@ -1,5 +1,5 @@
 -- Which refusal a call gives. Of several causes that apply the one with the lowest number is returned.
-use Rattle.std.specs.Prelude.{◌≡◌, ℕ, ◌<◌, Ok, Err, Result}
+use Rattle.std.specs.Prelude.{◌≡◌, ◌<◌, Ok, Err, Result}
 use Rattle.refusal.specs.declared.Refusal.{Refusal}
 use Rattle.refusal.specs.Numbers.{number_of}
 

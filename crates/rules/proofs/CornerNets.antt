@@ -5,7 +5,7 @@ use Rattle.carry.specs.declared.net.Place.{Place}
 use Rattle.carry.specs.declared.corner.Corner.{Corner}
 use Rattle.carry.specs.Digits.{different, number, digit, corner_kind}
 use Rattle.carry.specs.Corners.{corner_meaning}
-use Rattle.carry.proofs.FourDigits.{low, own_digits, numbers, one_at}
+use Rattle.carry.specs.FourDigits.{low, own_digits, numbers, one_at}
 use Rattle.rules.specs.Rows.{corner, vertices, Repeated}
 use Rattle.rules.specs.Readings.{face, On}
 use Rattle.rules.specs.Joins.{Half, Joined, NoThree}

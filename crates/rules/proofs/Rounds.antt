@@ -7,7 +7,7 @@ use Rattle.carry.specs.Corners.{corner_meaning}
 use Rattle.carry.specs.Digits.{different, number, digit, composed, corner_kind}
 use Rattle.carry.specs.Agreement.{Agrees, Grounded}
 use Rattle.carry.specs.Webs.{Web}
-use Rattle.carry.proofs.FourDigits.{all, all_at}
+use Rattle.carry.specs.FourDigits.{all, all_at}
 use Rattle.rules.specs.Rows.{Repeated}
 use Rattle.rules.specs.Joins.{Joined}
 use Rattle.rules.specs.Nets.{JoinedSides, CornerStep, CornerWeb, AllDiffer}

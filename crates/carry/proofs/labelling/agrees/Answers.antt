@@ -5,9 +5,9 @@ use Rattle.carry.proofs.labelling.agrees.Goals as goal
 
 pub loop-item-preserved : goal.loop-item-preserved
 loop-item-preserved g c =
-    let Good : ℕ → Type 0 = AgreesAt (g.N.Net.web c.args.net.now) g.Label-as-Label.kind (map g.Label-as-Label.meaning c.args.labels.now) in
+    let Good : ℕ → Type 0 = AgreesAt (g.N.Net.web c.args.net.now) g.N.Label.Label.kind (map g.N.Label.Label.meaning c.args.labels.now) in
     λ i less. elim (cases_eq i c.loop-item.item) [
-      | inl z ↦ subst Good (sym z) (c.if-not-agrees-at.ensures.agrees refl)
+      | inl z ↦ subst Good (sym z) (c.if-not-agrees_at.ensures.agrees refl)
       | inr n ↦ c.loop-item.invariant i (omega arith)
     ]
 

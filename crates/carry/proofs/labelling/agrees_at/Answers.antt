@@ -5,8 +5,8 @@ use Rattle.carry.proofs.Lists.{read}
 use Rattle.carry.proofs.labelling.agrees_at.Goals as goal
 use Rattle.carry.proofs.labelling.agrees_at.Goals.{in-Some+else-not-same, in_default}
 
-pub offset-bounds-labels-p : goal.offset-bounds-labels-p
-offset-bounds-labels-p g c =
+pub offset_bounds-labels-p : goal.offset_bounds-labels-p
+offset_bounds-labels-p g c =
     let s = c.requires.sound in
     omega (arith, s.within _ _ c.in-Some.p (sym c.join.ensures ∙ c.in-Some.is))
 
@@ -18,8 +18,8 @@ bounds-labels-p g c =
 pub returns-then-not-same : goal.returns-then-not-same
 returns-then-not-same g c =
     let s = c.requires.sound in
-    let f = g.Label-as-Label.meaning in
-    let k = g.Label-as-Label.kind in
+    let f = g.N.Label.Label.meaning in
+    let k = g.N.Label.Label.kind in
     let w = g.N.Net.web c.args.net.now in
     let xs = c.args.labels.now in
     let p = c.in-Some.p in
@@ -42,8 +42,8 @@ returns-then-not-same g c =
 pub loop-side-preserved : goal.loop-side-preserved
 loop-side-preserved g c =
     let s = c.requires.sound in
-    let f = g.Label-as-Label.meaning in
-    let k = g.Label-as-Label.kind in
+    let f = g.N.Label.Label.meaning in
+    let k = g.N.Label.Label.kind in
     let w = g.N.Net.web c.args.net.now in
     let xs = c.args.labels.now in
     let Good : ℕ → Type 0 = λ t. (p : Place) → w.joins c.args.item t ≡ Some p → get_or (map f xs) p.item 0 ≡ k.combined (get_or (map f xs) c.args.item 0) (w.steps c.args.item t) in
@@ -61,7 +61,7 @@ loop-side-preserved g c =
           let ok = v.same.ensures.only v.if-not-same.false in
           let fin : get_or (map f xs) q.item 0 ≡ k.combined (get_or (map f xs) c.args.item 0) (w.steps c.args.item c.loop-side.side) = cc in
           subst (λ (z : Place). get_or (map f xs) z.item 0 ≡ k.combined (get_or (map f xs) c.args.item 0) (w.steps c.args.item c.loop-side.side)) pq fin)
-      | in_default v ↦ (λ p e. absurd (v.in-default.not-Some p (c.join.ensures ∙ e)))
+      | in_default v ↦ (λ p e. absurd (v.in_default.not-Some p (c.join.ensures ∙ e)))
     ] in
     λ t less. elim (cases_eq t c.loop-side.side) [
       | inl z ↦ subst Good (sym z) now

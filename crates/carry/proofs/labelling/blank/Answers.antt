@@ -6,7 +6,7 @@ use Rattle.carry.proofs.labelling.blank.Goals as goal
 
 pub loop-i-preserved : goal.loop-i-preserved
 loop-i-preserved g c =
-    let f = g.L-as-Label.meaning in
+    let f = g.L.Label.meaning in
     let xs = c.loop-i.labels in
     let i = c.loop-i.i in
     let lt : i < length (map f xs) = omega (arith, length-map xs f) in (

@@ -4,12 +4,12 @@ use Rattle.std.proofs.lemmas.List.{drop-set-lt}
 use Rattle.carry.proofs.Moves.{try_turn, leave, finish, advance_weight, advance_grown}
 use Rattle.carry.proofs.walk.advance.Goals as goal
 
-pub returns-then-side-side-count : goal.returns-then-side-side-count
-returns-then-side-side-count g c =
+pub returns-then-side-side_count : goal.returns-then-side-side_count
+returns-then-side-side_count g c =
     let s = c.requires.sound in
-    let ls = map g.Label-as-Label.meaning c.args.labels.now in
+    let ls = map g.N.Label.Label.meaning c.args.labels.now in
     record {
-      advanced = try_turn s c.args.marks.now ls c.forward-next.new.marks _ c.args.item c.forward-next.result c.requires.state.0 (omega (arith, length-map c.args.labels.now g.Label-as-Label.meaning)) (omega arith) c.forward-next.ensures.tried;
+      advanced = try_turn s c.args.marks.now ls c.forward-next.new.marks _ c.args.item c.forward-next.result c.requires.state.0 (omega (arith, length-map c.args.labels.now g.N.Label.Label.meaning)) (omega arith) c.forward-next.ensures.tried;
       rest = c.forward-next.ensures.rest;
     }
 

@@ -10,8 +10,8 @@ bounds-marks-p g c =
     let e = sym c.join.ensures ∙ c.in-Some.is in
     omega (arith, s.within _ _ c.in-Some.p e)
 
-pub offset-bounds-labels-p : goal.offset-bounds-labels-p
-offset-bounds-labels-p g c =
+pub offset_bounds-labels-p : goal.offset_bounds-labels-p
+offset_bounds-labels-p g c =
     let s = c.requires.sound in
     let e = sym c.join.ensures ∙ c.in-Some.is in
     let h : c.in-Some.p.item < length c.args.labels.now = omega (arith, s.within _ _ c.in-Some.p e) in
@@ -23,14 +23,14 @@ bounds-labels-p g c =
     let e = sym c.join.ensures ∙ c.in-Some.is in
     omega (arith, s.within _ _ c.in-Some.p e)
 
-pub overflow-cast-marks : goal.overflow-cast-marks
-overflow-cast-marks g c =
+pub overflow_cast-marks : goal.overflow_cast-marks
+overflow_cast-marks g c =
     let s = c.requires.sound in
     let e = sym c.join.ensures ∙ c.in-Some.is in
     omega (arith, s.within _ _ c.in-Some.p e, s.few_sides)
 
-pub overflow-add-marks : goal.overflow-add-marks
-overflow-add-marks g c =
+pub overflow_add-marks : goal.overflow_add-marks
+overflow_add-marks g c =
     let s = c.requires.sound in
     let e = sym c.join.ensures ∙ c.in-Some.is in
     omega (arith, s.within _ _ c.in-Some.p e, s.few_sides)
@@ -44,7 +44,7 @@ bounds-marks-p-in-Some g c =
 pub returns-else-marks-p-ne0 : goal.returns-else-marks-p-ne0
 returns-else-marks-p-ne0 g c =
     let s = c.requires.sound in
-    let f = g.Label-as-Label.meaning in
+    let f = g.N.Label.Label.meaning in
     let p = c.in-Some.p in
     let e : (g.N.Net.web c.args.net.now).joins c.args.item c.args.side ≡ Some p = sym c.join.ensures ∙ c.in-Some.is in
     let xs = c.args.labels.now in

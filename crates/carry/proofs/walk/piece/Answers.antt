@@ -20,12 +20,12 @@ pub returns : goal.returns
 returns g c =
     let s = c.requires.sound in
     let w = g.N.Net.web c.args.net.now in
-    let f = g.Label-as-Label.meaning in
-    let k = g.Label-as-Label.kind in
+    let f = g.N.Label.Label.meaning in
+    let k = g.N.Label.Label.kind in
     let xs = c.args.labels.now in
     let ms = c.args.marks.now in
     let root = c.args.root in
-    let t = c.in-default.ensures.advanced in
+    let t = c.in_default.ensures.advanced in
     let lt : root < w.items = omega arith in
     let set-ls : set (map f xs) root k.neutral ≡ map f (set xs root c.neutral.result) = sym (map-set f xs root c.neutral.result ∙ ap (set (map f xs) root) c.neutral.ensures) in
     let start : Grown w k root ms (map f xs) (set ms root 5) (map f (set xs root c.neutral.result)) =
@@ -34,5 +34,5 @@ returns g c =
       rests = t.goes;
       grown = t.grows root ms (map f xs) (c.loop-next.invariant.1 ms (map f xs) start);
       past = t.rest ∙ c.loop-next.invariant.2 ∙ drop-set-lt _ ms root 5 lt;
-      rest = c.in-default.ensures.rest ∙ c.loop-next.invariant.3 ∙ drop-set-lt _ xs root _ lt;
+      rest = c.in_default.ensures.rest ∙ c.loop-next.invariant.3 ∙ drop-set-lt _ xs root _ lt;
     }

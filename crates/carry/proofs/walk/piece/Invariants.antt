@@ -5,9 +5,9 @@ use Rattle.carry.proofs.walk.piece.Given as goal
 abbrev pub invariant-loop-next : goal.invariant-loop-next
 invariant-loop-next g l =
     let w = g.N.Net.web l.net in
-    let f = g.Label-as-Label.meaning in
+    let f = g.N.Label.Label.meaning in
     Walking w l.marks l.item ×
-    ((ms₀ ls₀ : List ℕ) → Grown w g.Label-as-Label.kind l.root ms₀ ls₀ l.initial.marks (map f l.initial.labels) → Grown w g.Label-as-Label.kind l.root ms₀ ls₀ l.marks (map f l.labels)) ×
+    ((ms₀ ls₀ : List ℕ) → Grown w g.N.Label.Label.kind l.root ms₀ ls₀ l.initial.marks (map f l.initial.labels) → Grown w g.N.Label.Label.kind l.root ms₀ ls₀ l.marks (map f l.labels)) ×
     (drop w.items l.marks ≡ drop w.items l.initial.marks) ×
     (drop w.items l.labels ≡ drop w.items l.initial.labels)
 

@@ -11,8 +11,8 @@ loop-root-init g c =
 pub loop-root-preserved : goal.loop-root-preserved
 loop-root-preserved g c =
     let s = c.requires.sound in
-    let f = g.Label-as-Label.meaning in
-    let T = g.N-as-Label.Denot in
+    let f = g.N.Label.Label.meaning in
+    let T = g.row.N-Label.Denot in
     let n = c.args.count in
     let root = c.loop-root.root in
     let ms = c.loop-root.marks in
@@ -39,9 +39,9 @@ returns g c =
     let s = c.requires.sound in
     let w = g.N.Net.web c.args.net.now in
     let e : c.loop-root.root ≡ w.items = omega arith in
-    let f = g.Label-as-Label.meaning in
+    let f = g.N.Label.Label.meaning in
     record {
-      spread = swept_all s c.loop-root.marks _ _ (subst (λ (n : ℕ). Swept w g.Label-as-Label.kind n c.loop-root.marks (map f c.loop-root.labels) c.loop-root.pieces) e c.loop-root.invariant.0);
+      spread = swept_all s c.loop-root.marks _ _ (subst (λ (n : ℕ). Swept w g.N.Label.Label.kind n c.loop-root.marks (map f c.loop-root.labels) c.loop-root.pieces) e c.loop-root.invariant.0);
       past = c.loop-root.invariant.1;
       rest = c.loop-root.invariant.2;
     }

@@ -4,6 +4,6 @@ use Rattle.carry.proofs.walk.spread.Given as goal
 
 abbrev pub invariant-loop-root : goal.invariant-loop-root
 invariant-loop-root g l =
-    Swept (g.N.Net.web l.net) g.Label-as-Label.kind l.root l.marks (map g.Label-as-Label.meaning l.labels) l.pieces ×
+    Swept (g.N.Net.web l.net) g.N.Label.Label.kind l.root l.marks (map g.N.Label.Label.meaning l.labels) l.pieces ×
     (drop l.count l.marks ≡ drop l.count l.initial.marks) ×
     (drop l.count l.labels ≡ drop l.count l.initial.labels)

@@ -1,4 +1,4 @@
-use Rattle.carry.proofs.FourDigits.{own_digits}
+use Rattle.carry.specs.FourDigits.{own_digits}
 use Rattle.carry.proofs.corner.Corner.digits.Goals as goal
 
 pub returns : goal.returns

@@ -1,5 +1,5 @@
 use Rattle.std.proofs.Common.{sym, arith}
-use Rattle.carry.proofs.FourDigits.{place_is_0, place_is_1, place_is_2, place_is_3}
+use Rattle.carry.specs.FourDigits.{place_is_0, place_is_1, place_is_2, place_is_3}
 use Rattle.carry.proofs.corner.Corner.place_of.Goals as goal
 
 pub returns-then-self-k : goal.returns-then-self-k

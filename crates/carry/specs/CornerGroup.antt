@@ -1,9 +1,10 @@
+-- By meaning, corner labels are a group.
 use Rattle.std.proofs.Common.{◌≡◌, refl}
 use Rattle.carry.specs.declared.corner.Corner.{Corner}
-use Rattle.carry.specs.Digits.{different, composed, undone, digit, place}
+use Rattle.carry.specs.Kinds.{Group}
+use Rattle.carry.specs.Digits.{different, composed, undone, digit, place, corner_kind}
 use Rattle.carry.specs.Corners.{corner_meaning}
-use Rattle.carry.proofs.FourDigits.{One, one_at, two_at, small, composed_assoc}
-use Rattle.carry.proofs.corner.CornerLabel.TheImpl.Goals as goal
+use Rattle.carry.specs.FourDigits.{One, one_at, two_at, small, composed_assoc}
 
 facts : (x : Corner) → One (corner_meaning x)
 facts x = one_at x.a x.b x.c x.d x.lawful
@@ -22,8 +23,8 @@ reverse : (x : Corner) → (z : Corner) × (corner_meaning z ≡ undone (corner_
 unfolding undone
 reverse x = let n = corner_meaning x in (record { a = place n 0; b = place n 1; c = place n 2; d = place n 3; lawful = (facts x).places }, refl)
 
-pub group-law : goal.group-law
-group-law = record {
+pub corner_group : Group corner_meaning corner_kind
+corner_group = record {
   associative = λ x y z. composed_assoc (corner_meaning x) (corner_meaning y) (corner_meaning z) (small x.a x.b x.c x.d x.lawful) (small y.a y.b y.c y.d y.lawful) (facts z).digits;
   neutral_before = λ x. (facts x).before;
   neutral_after = λ x. (facts x).after;
