@@ -1,20 +1,19 @@
 -- The corner net of rows: where the corners of two joined cells are sent, and that the net that computes is one.
-use Rattle.std.proofs.Common.{◌≡◌, ℕ, zero, suc, ◌+◌, ◌*◌, ◌/◌, ◌%◌, ◌<◌, ◌≤◌, Bool, true, false, cond, not, ◌&&◌, eqb, ltb, ◌⊎◌, List, [], ◌∷◌, length, get_or, Some, None, Option, sym, refl, ap, ◌∙◌, subst, inl, inr, ⊎_elim, arith}
+use Rattle.std.proofs.Common.{◌≡◌, ℕ, ◌+◌, ◌*◌, ◌/◌, ◌%◌, ◌<◌, true, not, eqb, ltb, List, [], length, get_or, Some, None, Option, sym, refl, ap, ◌∙◌, subst, ⊎_elim, arith}
 use Rattle.std.proofs.lemmas.Bool.{eq-eqb, ne_eqb, cases_eq, cases_lt, cond-true, cond-false, and_from, not_from_false, lt-ltb}
 use Rattle.carry.specs.declared.net.Place.{Place}
 use Rattle.carry.specs.declared.corner.Corner.{Corner}
-use Rattle.carry.specs.Digits.{different, number, digit, corner_kind}
+use Rattle.carry.specs.Digits.{different, number, digit}
 use Rattle.carry.specs.Corners.{corner_meaning}
 use Rattle.carry.specs.FourDigits.{low, own_digits, numbers, one_at}
 use Rattle.rules.specs.Rows.{corner, vertices, Repeated}
-use Rattle.rules.specs.Readings.{face, On}
-use Rattle.rules.specs.Joins.{Half, Joined, NoThree}
-use Rattle.rules.specs.Nets.{JoinedSides, CellWeb, CornerStep, CornerWeb, AllDiffer}
+use Rattle.rules.specs.Joins.{Joined, NoThree}
+use Rattle.rules.specs.Nets.{JoinedSides, CornerStep, CornerWeb, AllDiffer}
 use Rattle.rules.specs.Tests.{on}
-use Rattle.rules.specs.NetTests.{opposite, partner, stepped, cell_joins, cell_steps, corner_at, sent, label, crossing, corner_web}
+use Rattle.rules.specs.NetTests.{partner, stepped, cell_joins, cell_steps, corner_at, sent, label, crossing, corner_web}
 use Rattle.rules.proofs.Corners.{by_four, test_at, on_other}
 use Rattle.rules.proofs.Opposites.{joined_faces, opposite_joined, joined_opposite, cell_web_is}
-use Rattle.rules.proofs.Webbed.{cases_option, partner_from, steps_in, placed_none}
+use Rattle.rules.proofs.Webbed.{partner_from, steps_in, placed_none}
 
 -- THE CORNER AT A VERTEX
 

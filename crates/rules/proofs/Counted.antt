@@ -1,9 +1,9 @@
 -- Numbers that are counted: how many there are of a kind, and what a listing says of it.
-use Rattle.std.proofs.Common.{◌≡◌, ℕ, zero, suc, ◌+◌, ◌<◌, ◌≤◌, Bool, true, false, ◌⊎◌, List, [], length, get_or, sym, refl, ap, ◌∙◌, subst, inl, inr, ⊎_elim, add-one, arith}
+use Rattle.std.proofs.Common.{◌≡◌, ℕ, zero, suc, ◌<◌, ◌≤◌, Bool, true, length, sym, refl, ap, ◌∙◌, subst, ⊎_elim, add-one, arith}
 use Rattle.std.proofs.lemmas.Bool.{cases_Bool, cases_eq, both_ways}
 use Rattle.carry.specs.Counting.{Counts}
 use Rattle.carry.specs.Counting.Counts.{none, one, skip}
-use Rattle.rules.specs.Listings.{Listing, Many}
+use Rattle.rules.specs.Listings.{Many}
 use Rattle.rules.specs.Tests.{picks}
 use Rattle.rules.proofs.Listed.{count_push, count_skip, listed_as, listing_fits}
 

@@ -1,6 +1,6 @@
 -- Half-faces with their triangles F and their opposites J, as functions: what a change of the numbers keeps.
-use Rattle.std.proofs.Common.{◌≡◌, ℕ, ◌<◌, ◌≤◌, Bool, true, false, cond, eqb, Some, None, Option, sym, refl, ap, ◌∙◌, subst, arith}
-use Rattle.std.proofs.lemmas.Bool.{eqb-true, eq-eqb, ne_eqb, false≢true}
+use Rattle.std.proofs.Common.{◌≡◌, ℕ, ◌<◌, Bool, true, Some, None, Option, sym, refl, ap, ◌∙◌}
+use Rattle.std.proofs.lemmas.Bool.{eqb-true, eq-eqb, false≢true}
 use Rattle.rules.specs.Tests.{names}
 
 pub record Exact (F : ℕ → ℕ → Bool) (m : ℕ) (J : ℕ → Option ℕ) : Type 0 where

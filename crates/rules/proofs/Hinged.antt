@@ -1,8 +1,7 @@
 -- An edge that is not sound and one that is, by computation.
-use Rattle.std.proofs.Common.{◌≡◌, ℕ, zero, suc, ◌+◌, ◌*◌, ◌/◌, ◌<◌, ◌≤◌, Bool, true, false, ◌⊎◌, List, [], ◌∷◌, length, Some, None, sym, refl, ap, ◌∙◌, subst, inl, inr, arith}
+use Rattle.std.proofs.Common.{◌≡◌, ℕ, zero, suc, ◌<◌, Some, None, sym, refl, inl, inr, arith}
 use Rattle.std.proofs.lemmas.Bool.{both_ways}
 use Rattle.rules.specs.Joins.{Joined}
-use Rattle.rules.specs.Questions.{AtEdge}
 use Rattle.rules.specs.NetTests.{meets, lowest, opposite}
 use Rattle.rules.specs.Soundness.{Leads, EdgeSound}
 use Rattle.rules.specs.Soundness.Leads.{stays, crosses}

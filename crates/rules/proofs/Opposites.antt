@@ -1,11 +1,10 @@
 -- The lowest other half-face on a triangle is the opposite, where no triangle is in three half-faces.
-use Rattle.std.proofs.Common.{◌≡◌, ℕ, ◌+◌, ◌*◌, ◌/◌, ◌%◌, ◌<◌, ◌≤◌, ◌⊎◌, List, [], length, get_or, Some, None, Option, sym, refl, ap, ◌∙◌, subst, inl, inr, ⊎_elim, arith}
+use Rattle.std.proofs.Common.{◌≡◌, ℕ, ◌+◌, ◌*◌, ◌/◌, ◌%◌, List, [], length, get_or, Some, Option, sym, refl, ap, ◌∙◌, ⊎_elim, arith}
 use Rattle.std.proofs.lemmas.Bool.{both_ways}
-use Rattle.carry.specs.declared.net.Place.{Place}
 use Rattle.rules.specs.Joins.{Half, Joined, NoThree}
-use Rattle.rules.specs.Nets.{JoinedSides, CellWeb}
+use Rattle.rules.specs.Nets.{CellWeb}
 use Rattle.rules.specs.Tests.{on_face}
-use Rattle.rules.specs.NetTests.{lowest, meets, opposite, cell_joins, cell_web}
+use Rattle.rules.specs.NetTests.{lowest, meets, opposite, cell_web}
 use Rattle.rules.proofs.Corners.{triangle_to, triangle_from}
 use Rattle.rules.proofs.Exact.{Exact}
 use Rattle.rules.proofs.Webbed.{lowest_some, lowest_none, meets_from, meets_to, cases_option, opposite_is, joined_from, joined_to}

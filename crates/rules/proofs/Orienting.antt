@@ -1,19 +1,19 @@
 -- From what carry leaves over the turn net to what orient does, and what follows of orient.
-use Rattle.std.proofs.Common.{◌≡◌, ℕ, ◌+◌, ◌<◌, ◌≤◌, min, ◌⊎◌, ◌↔◌, List, map, length, get_or, take, Ok, Err, Result, sym, refl, ap, ◌∙◌, subst, inl, inr, ⊎_elim, arith}
+use Rattle.std.proofs.Common.{◌≡◌, ℕ, ◌≤◌, List, map, length, take, Ok, Err, Result, sym, refl, ap, ◌∙◌, subst, ⊎_elim, arith}
 use Rattle.std.proofs.lemmas.List.{length-take-le}
 use Rattle.std.proofs.lemmas.Bool.{cases_lt}
 use Rattle.refusal.specs.declared.Refusal.{Refusal}
 use Rattle.refusal.specs.declared.Refusal.TheVariants.{ListTooShort, NoLabelsAgree}
-use Rattle.refusal.specs.Causes.{First, NoCause}
+use Rattle.refusal.specs.Causes.{First}
 use Rattle.carry.specs.declared.turn.Turn.{Turn}
 use Rattle.carry.specs.Turns.{turn_meaning, turn_kind}
 use Rattle.carry.specs.Carrying.{CarryCause, Carried}
 use Rattle.carry.specs.Carrying.CarryCause.{few_labels as carry-few-labels, few_marks as carry-few-marks, none_agree as carry-none-agree}
 use Rattle.rules.specs.PlainList.{Plain, changed}
 use Rattle.rules.specs.Joins.{NoThree}
-use Rattle.rules.specs.Nets.{TurnsAgree, TurnedMany, turned_by, AllOpposed, NoChoice, AllDiffer, Orientation}
+use Rattle.rules.specs.Nets.{TurnedMany, turned_by, AllOpposed, NoChoice, AllDiffer, Orientation}
 use Rattle.rules.specs.NetTests.{turn_web}
-use Rattle.rules.specs.Orients.{OrientCause, Oriented, Unoriented, Orients, RefusedExactly, OpposedAfter, OrientsOnce}
+use Rattle.rules.specs.Orients.{OrientCause, Orients, RefusedExactly, OpposedAfter, OrientsOnce}
 use Rattle.rules.specs.Orients.OrientCause.{few_labels, few_marks, none_agree}
 use Rattle.rules.proofs.Labelled.{turned_take}
 use Rattle.rules.proofs.Once.{first_one}

@@ -1,17 +1,14 @@
 -- The corner labels of rings of three and four cells, by computation.
-use Rattle.std.proofs.Common.{◌≡◌, ℕ, zero, suc, ◌+◌, ◌*◌, ◌/◌, ◌%◌, ◌<◌, ◌≤◌, Bool, true, false, cond, not, ◌&&◌, ◌||◌, eqb, ◌⊎◌, List, [], ◌∷◌, map, length, get_or, Some, None, Option, sym, refl, ap, ◌∙◌, subst, inl, inr, ⊎_elim, arith}
+use Rattle.std.proofs.Common.{◌≡◌, ℕ, zero, suc, ◌+◌, ◌*◌, ◌/◌, ◌<◌, ◌≤◌, Bool, true, not, ◌&&◌, ◌||◌, eqb, List, [], ◌∷◌, map, length, get_or, Some, sym, refl, ap, ◌∙◌, ⊎_elim, arith}
 use Rattle.std.proofs.lemmas.Bool.{eqb-true, eq-eqb, and_parts, both_ways, not-true, or_cases, cases_eq}
 use Rattle.carry.specs.declared.net.Place.{Place}
 use Rattle.carry.specs.declared.corner.Corner.{Corner}
 use Rattle.carry.specs.Corners.{corner_meaning}
-use Rattle.carry.specs.Digits.{different, number, digit, composed, corner_kind}
+use Rattle.carry.specs.Digits.{different, number, composed, corner_kind}
 use Rattle.carry.specs.Agreement.{Agrees, Grounded}
 use Rattle.carry.specs.Webs.{Web}
 use Rattle.carry.specs.FourDigits.{all, all_at}
-use Rattle.rules.specs.Rows.{Repeated}
-use Rattle.rules.specs.Joins.{Joined}
-use Rattle.rules.specs.Nets.{JoinedSides, CornerStep, CornerWeb, AllDiffer}
-use Rattle.rules.specs.Tests.{repeat_test}
+use Rattle.rules.specs.Nets.{JoinedSides, CornerWeb, AllDiffer}
 use Rattle.rules.specs.NetTests.{meets, lowest, opposite, corner_at, sent, crossing}
 use Rattle.rules.specs.Pits.{three_round, four_round, Rings}
 use Rattle.rules.proofs.Judged.{not_repeated}

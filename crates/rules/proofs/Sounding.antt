@@ -1,11 +1,10 @@
 -- Soundness from the stars that are told, and which cause of a question about it comes first.
-use Rattle.std.proofs.Common.{◌≡◌, ℕ, ◌+◌, ◌*◌, ◌<◌, ◌≤◌, Bool, true, false, ◌⊎◌, ◌↔◌, List, [], length, get_or, sym, refl, ap, ◌∙◌, subst, inl, inr, ⊎_elim, arith}
+use Rattle.std.proofs.Common.{◌≡◌, ℕ, ◌<◌, ◌≤◌, List, [], length, get_or, sym, ap, ◌∙◌, subst, arith}
 use Rattle.refusal.specs.declared.Refusal.{Refusal}
-use Rattle.refusal.specs.declared.Refusal.TheVariants.{VertexTooHigh, VerticesEqual, ListTooShort, InNoCell}
+use Rattle.refusal.specs.declared.Refusal.TheVariants.{VertexTooHigh, VerticesEqual, InNoCell}
 use Rattle.refusal.specs.Numbers.{number_of}
 use Rattle.refusal.specs.Causes.{First, NoCause}
-use Rattle.carry.specs.Counting.{Counts}
-use Rattle.rules.specs.Rows.{In, corner}
+use Rattle.rules.specs.Rows.{corner}
 use Rattle.rules.specs.Joins.{LawfulRows}
 use Rattle.rules.specs.Listings.{Listing, Many}
 use Rattle.rules.specs.Questions.{AtVertex, AtEdge, StarCause, EdgeStarCause}

@@ -1,12 +1,12 @@
 -- The star net of an edge or a vertex, and what its number of pieces says of the star.
-use Rattle.std.proofs.Common.{◌≡◌, ℕ, zero, suc, ◌+◌, ◌*◌, ◌/◌, ◌%◌, ◌<◌, ◌≤◌, Bool, true, false, cond, ◌&&◌, eqb, ltb, ◌⊎◌, ◌↔◌, List, [], ◌∷◌, map, length, get_or, replicate, Some, None, Option, sym, refl, ap, ◌∙◌, subst, inl, inr, ⊎_elim, arith}
+use Rattle.std.proofs.Common.{◌≡◌, ℕ, zero, suc, ◌+◌, ◌*◌, ◌/◌, ◌%◌, ◌<◌, ◌≤◌, Bool, true, false, ◌&&◌, eqb, ltb, ◌⊎◌, List, [], map, length, get_or, replicate, Some, None, sym, refl, ap, ◌∙◌, subst, inl, inr, ⊎_elim, arith}
 use lib.ListN.{length-replicate}
 use Rattle.std.proofs.lemmas.Bool.{cases_Bool, cond-true, cond-false, and_parts, and_from, both_ways, lt-ltb, ltb-true, eq-eqb, or_left, or_right}
 use Rattle.refusal.specs.declared.Refusal.{Refusal}
 use Rattle.carry.specs.declared.net.Place.{Place}
 use Rattle.carry.specs.declared.turn.Turn.{Turn}
 use Rattle.carry.specs.declared.turn.Turn.TheVariants.{Straight}
-use Rattle.carry.specs.Webs.{Web, Sound}
+use Rattle.carry.specs.Webs.{Sound}
 use Rattle.carry.specs.Turns.{turn_meaning, turn_kind}
 use Rattle.carry.specs.Agreement.{Reach, FirstItem, Agrees, Agreeing}
 use Rattle.carry.specs.Agreement.Reach.{here, on}
@@ -16,7 +16,7 @@ use Rattle.carry.specs.Carrying.{CarryCause}
 use Rattle.carry.specs.Carrying.CarryCause.{few_labels, few_marks, none_agree}
 use Rattle.carry.proofs.Ways.{reach_on, reach_back}
 use Rattle.rules.specs.Rows.{In}
-use Rattle.rules.specs.Readings.{face, reads, listed, On}
+use Rattle.rules.specs.Readings.{reads, On}
 use Rattle.rules.specs.Joins.{Joined, NoThree}
 use Rattle.rules.specs.Listings.{Many}
 use Rattle.rules.specs.Questions.{AtEdge}

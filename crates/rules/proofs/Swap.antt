@@ -1,6 +1,6 @@
 -- Two half-faces exchange their triangles, and what is joined to one is joined to the other after: the joins stay exact.
-use Rattle.std.proofs.Common.{◌≡◌, ℕ, ◌<◌, ◌≤◌, Bool, true, false, cond, eqb, ◌⊎◌, Some, None, Option, sym, refl, ap, ◌∙◌, subst, inl, inr, ⊎_elim, arith}
-use Rattle.std.proofs.lemmas.Bool.{eqb-true, eq-eqb, ne_eqb, cases_eq, cond-true, cond-false, false≢true, cases_Bool, both_ways}
+use Rattle.std.proofs.Common.{◌≡◌, ℕ, ◌<◌, Bool, false, cond, eqb, ◌⊎◌, Some, Option, sym, refl, ap, ◌∙◌, subst, inl, inr, ⊎_elim}
+use Rattle.std.proofs.lemmas.Bool.{eq-eqb, ne_eqb, cases_eq, cond-true, cond-false, cases_Bool, both_ways}
 use Rattle.rules.specs.Tests.{names}
 use Rattle.rules.proofs.Exact.{Exact, named, names_some, back, renumber}
 use Rattle.rules.proofs.Options.{some_eq}

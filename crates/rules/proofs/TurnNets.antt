@@ -1,5 +1,5 @@
 -- The turn net of rows: the one that computes is one, and it is the only one. Labels agree over it exactly when turning by them makes all joined triangles read opposite ways.
-use Rattle.std.proofs.Common.{◌≡◌, ℕ, zero, suc, ◌+◌, ◌*◌, ◌/◌, ◌%◌, ◌<◌, ◌≤◌, Bool, true, false, cond, ◌⊎◌, ◌↔◌, List, [], ◌∷◌, map, length, get_or, Some, None, Option, sym, refl, ap, ◌∙◌, subst, inl, inr, ⊎_elim, arith}
+use Rattle.std.proofs.Common.{◌≡◌, ℕ, zero, suc, ◌+◌, ◌*◌, ◌<◌, ◌≤◌, Bool, true, false, cond, ◌⊎◌, List, map, length, get_or, Some, None, Option, sym, refl, ap, ◌∙◌, subst, inl, inr, ⊎_elim, arith}
 use Rattle.std.proofs.lemmas.Bool.{cases_Bool, both_ways, cond-true, cond-false}
 use Rattle.carry.specs.declared.net.Place.{Place}
 use Rattle.carry.specs.declared.turn.Turn.{Turn}
@@ -7,14 +7,13 @@ use Rattle.carry.specs.declared.turn.Turn.TheVariants.{Straight, Turned}
 use Rattle.carry.specs.Kinds.{Kind}
 use Rattle.carry.specs.Turns.{turn_meaning, turn_kind}
 use Rattle.carry.specs.Webs.{Web}
-use Rattle.carry.specs.Agreement.{Reach, FirstItem, Agrees, Grounded}
+use Rattle.carry.specs.Agreement.{Reach, Agrees, Grounded}
 use Rattle.carry.specs.Agreement.Reach.{here, on}
 use Rattle.carry.specs.Counting.{Counts}
 use Rattle.carry.specs.Counting.Counts.{none, one, skip}
-use Rattle.rules.specs.Rows.{Repeated}
-use Rattle.rules.specs.Readings.{reads, listed, Alike}
-use Rattle.rules.specs.Joins.{Joined, NoThree}
-use Rattle.rules.specs.Nets.{JoinedSides, CellWeb, TurnWeb, TurnsAgree, TurnsMeant, turned_by, AllOpposed, AllDiffer, Orientation, OneOrientation}
+use Rattle.rules.specs.Readings.{reads, Alike}
+use Rattle.rules.specs.Joins.{NoThree}
+use Rattle.rules.specs.Nets.{JoinedSides, TurnWeb, TurnsAgree, TurnsMeant, turned_by, AllOpposed, AllDiffer, OneOrientation}
 use Rattle.rules.specs.Tests.{Differ}
 use Rattle.rules.specs.NetTests.{rotation, read_at, alike, opposite, partner, stepped, cell_joins, cell_steps, turning, turn_web}
 use Rattle.rules.proofs.Labelled.{turned_same}

@@ -1,13 +1,13 @@
 -- The nets of rows as they compute: what an opposite is, and that each of them is a net.
-use Rattle.std.proofs.Common.{◌≡◌, ℕ, zero, suc, ◌+◌, ◌*◌, ◌/◌, ◌%◌, ◌<◌, ◌≤◌, Bool, true, false, cond, not, ◌&&◌, ◌||◌, eqb, ltb, ◌≢◌, ◌⊎◌, List, [], ◌∷◌, map, length, get_or, Some, None, Option, sym, refl, ap, ◌∙◌, subst, inl, inr, ⊎_elim, arith}
-use Rattle.std.proofs.lemmas.Bool.{eqb-true, eq-eqb, ne_eqb, cases_eq, cases_lt, cases_Bool, cond-true, cond-false, and_parts, and_from, and_left, and_right, and_cases, or_cases, or_left, or_right, both_ways, not-true, not_from_false, not_from_true, not-false, lt-ltb, le-ltb, ltb-true, false≢true, true≢false}
+use Rattle.std.proofs.Common.{◌≡◌, ℕ, zero, suc, ◌+◌, ◌*◌, ◌/◌, ◌%◌, ◌<◌, ◌≤◌, Bool, true, false, cond, not, ◌||◌, eqb, ltb, ◌⊎◌, List, [], length, get_or, Some, None, Option, sym, refl, ap, ◌∙◌, subst, inl, inr, ⊎_elim, arith}
+use Rattle.std.proofs.lemmas.Bool.{eqb-true, eq-eqb, ne_eqb, cases_eq, cases_Bool, cond-true, cond-false, and_parts, and_from, and_left, and_right, or_cases, or_left, or_right, both_ways, not-true, not_from_false, lt-ltb, le-ltb, ltb-true}
 use Rattle.carry.specs.declared.net.Place.{Place}
 use Rattle.carry.specs.declared.turn.Turn.{Turn}
 use Rattle.carry.specs.declared.turn.Turn.TheVariants.{Straight, Turned}
 use Rattle.carry.specs.Kinds.{Kind}
-use Rattle.carry.specs.Webs.{Web, Sound}
-use Rattle.carry.specs.Turns.{turn_meaning, turn_kind}
-use Rattle.rules.specs.Readings.{face, reads, listed}
+use Rattle.carry.specs.Webs.{Sound}
+use Rattle.carry.specs.Turns.{turn_meaning}
+use Rattle.rules.specs.Readings.{face, listed}
 use Rattle.rules.specs.Tests.{on, on_face}
 use Rattle.rules.specs.NetTests.{among, same_three, read_at, alike, meets, or_else, lowest, opposite, inside, placed, partner, stepped, cell_joins, cell_steps, cell_web, turning}
 use Rattle.rules.proofs.Corners.{by_four, both}

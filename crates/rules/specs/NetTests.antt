@@ -1,5 +1,5 @@
 -- The nets of rows as they compute; proofs/ ties each to its relation.
-use Rattle.std.specs.Prelude.{◌≡◌, ℕ, zero, suc, ◌+◌, ◌*◌, ◌/◌, ◌%◌, ◌<◌, ◌≤◌, Bool, true, false, cond, not, ◌&&◌, ◌||◌, List, [], ◌∷◌, length, Some, None, Option, ◌==◌, nat_lt, slice_index, slice_index_or}
+use Rattle.std.specs.Prelude.{ℕ, zero, suc, ◌+◌, ◌*◌, ◌/◌, ◌%◌, Bool, true, false, cond, not, ◌&&◌, ◌||◌, List, [], length, Some, None, Option, ◌==◌, nat_lt, slice_index, slice_index_or}
 use Rattle.carry.specs.declared.net.Place.{Place}
 use Rattle.carry.specs.Webs.{Web}
 use Rattle.carry.specs.Digits.{number}

@@ -5,7 +5,7 @@ use Rattle.refusal.specs.declared.Refusal.TheVariants.{VertexTooHigh, VerticesEq
 use Rattle.refusal.specs.Causes.{Answered, Outcome}
 use Rattle.rules.specs.Rows.{In}
 use Rattle.rules.specs.Readings.{reads, listed}
-use Rattle.rules.specs.Joins.{Half, Joined, OnSkin, Lower, OppositeIs}
+use Rattle.rules.specs.Joins.{Joined, OnSkin, Lower, OppositeIs}
 use Rattle.rules.specs.Listings.{Many, Filled}
 
 -- THE COUNTS
