@@ -5,8 +5,8 @@ use Rattle.worklist.proofs.line.one.Goals as goal
 pub returns-in-empty : goal.returns-in-empty
 returns-in-empty c = later_some c.args.s.now c.in-Some.n c.in-Some.more.now [] c.in-Some.ensures (empty_is c.in-Some.more.now (search rules), tt)
 
-pub returns-in-default : goal.returns-in-default
-returns-in-default c = later_none c.args.s.now c.in-Some.n _ 0 c.in-Some.ensures (ends_none c.in-Some.more.now (search rules))
+pub returns-in_default : goal.returns-in_default
+returns-in_default c = later_none c.args.s.now c.in-Some.n _ 0 c.in-Some.ensures (ends_none c.in-Some.more.now (search rules))
 
 pub returns-in-None : goal.returns-in-None
 returns-in-None c = first_none c.args.s.now 0 c.in-None.ensures

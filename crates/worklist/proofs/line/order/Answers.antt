@@ -8,8 +8,8 @@ returns-in-empty c =
     let e : c.args.rest.now ≡ [] = empty_is c.args.rest.now (search rules) in
     ((cc), tt)
 
-pub returns-in-empty-default : goal.returns-in-empty-default
-returns-in-empty-default c =
+pub returns-in-empty-rest : goal.returns-in-empty-rest
+returns-in-empty-rest c =
     let l : c.args.letter ≡ 83 = search rules in
     let e : c.args.rest.now ≡ [] = empty_is c.args.rest.now (search rules) in
     ((cc), tt)

@@ -4,8 +4,8 @@ use Rattle.worklist.proofs.Once.{once}
 use Rattle.worklist.proofs.Wholes.{turned_down, closed_at, reaches_more, begins_shorter}
 use Rattle.worklist.proofs.list.check_list.Goals as goal
 
-pub returns-then-text-gt-MOST-BYTES : goal.returns-then-text-gt-MOST-BYTES
-returns-then-text-gt-MOST-BYTES c = record { told = long c.if-text-gt-MOST-BYTES.true; once = once c.args.text.now }
+pub returns-then-text-gt-MOST_BYTES : goal.returns-then-text-gt-MOST_BYTES
+returns-then-text-gt-MOST_BYTES c = record { told = long (omega (arith, c.if-text-gt-MOST_BYTES.true)); once = once c.args.text.now }
 
 pub loop-more-init : goal.loop-more-init
 loop-more-init c = (omega arith, ([], record { whole = refl; running = tt }, refl))

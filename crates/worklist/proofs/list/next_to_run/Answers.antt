@@ -8,11 +8,11 @@ returns-in-Close c =
     let h = none_closes c.args.rest.now _ c.in-Some.more.now (begins_as _ _ _ _ c.in-Close.is c.in-Some.ensures) in
     record { first = h; inturn = none_left c.args.rest.now h; shorter = tt }
 
-pub returns-in-default : goal.returns-in-default
-returns-in-default c =
+pub returns-in_default : goal.returns-in_default
+returns-in_default c =
     record {
-      first = (c.in-Some.ensures, c.in-default.not-Close);
-      inturn = some_left c.args.rest.now c.in-Some.order c.in-Some.more.now (c.in-Some.ensures, c.in-default.not-Close);
+      first = (c.in-Some.ensures, c.in_default.not-Close);
+      inturn = some_left c.args.rest.now c.in-Some.order c.in-Some.more.now (c.in-Some.ensures, c.in_default.not-Close);
       shorter = omega (arith, begins_shorter c.args.rest.now c.in-Some.order c.in-Some.more.now c.in-Some.ensures);
     }
 

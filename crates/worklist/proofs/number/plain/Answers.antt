@@ -11,9 +11,9 @@ returns-in-Some c =
     let small : c.in-Some.v < 65536 = omega (arith, c.if-v-le-LARGEST.true) in
     (some_number c.args.s.now c.in-Some.v v.0 v.1 c.requires.some c.requires.led small, small)
 
-pub returns-in-default : goal.returns-in-default
-returns-in-default c n small e =
+pub returns-in_default : goal.returns-in_default
+returns-in_default c n small e =
     omega (arith, the_value c.args.s.now n small e, c.in-Some.ensures.1, c.if-v-le-LARGEST.false)
 
-pub returns-in-default·2 : goal.returns-in-default·2
-returns-in-default·2 c n small e = none_letter c.args.s.now n small e c.in-default.ensures
+pub returns-in_default-2 : goal.returns-in_default-2
+returns-in_default-2 c n small e = none_letter c.args.s.now n small e c.in_default.ensures

@@ -10,7 +10,7 @@ loop-b-preserved c =
     let s = c.args.s.now in
     let i = c.loop-b.b-index in
     let D = drop_more s i 0 c.loop-b-test.true in
-    let isd = sym c.if-not-is-ascii-digit.ensures.value in
+    let isd = sym c.if-not-is_ascii_digit.ensures.value in
     let b : get_or s i 0 - 48 ≤ 9 = digit_bound (get_or s i 0) isd in
     let inv = c.loop-b.invariant in (
       inv.0 ∙ ap all_ascii_digits D ∙ digits_step (get_or s i 0) (drop (i + 1) s) isd,
@@ -23,11 +23,11 @@ loop-b-preserved c =
       λ h. omega (arith, inv.6 (omega arith)),
     )
 
-pub returns-then-not-is-ascii-digit : goal.returns-then-not-is-ascii-digit
-returns-then-not-is-ascii-digit c =
+pub returns-then-not-is_ascii_digit : goal.returns-then-not-is_ascii_digit
+returns-then-not-is_ascii_digit c =
     let s = c.args.s.now in
     let i = c.loop-b.b-index in
-    c.loop-b.invariant.0 ∙ ap all_ascii_digits (drop_more s i 0 c.loop-b-test.true) ∙ digits_stop (get_or s i 0) (drop (i + 1) s) (sym c.if-not-is-ascii-digit.ensures.value)
+    c.loop-b.invariant.0 ∙ ap all_ascii_digits (drop_more s i 0 c.loop-b-test.true) ∙ digits_stop (get_or s i 0) (drop (i + 1) s) (sym c.if-not-is_ascii_digit.ensures.value)
 
 pub returns : goal.returns
 returns c =
