@@ -1,5 +1,5 @@
 -- What a put leaves: the three ways it goes.
-use Rattle.std.proofs.Common.{◌≡◌, ℕ, zero, suc, ◌+◌, ◌-◌, ◌<◌, ◌≤◌, List, [], ◌∷◌, ◌++◌, length, get_or, take, drop, set, Some, None, Option, Ordering, Equal, sym, refl, ap, ◌∙◌, subst, arith, length-drop, length-set, length-take}
+use Rattle.std.proofs.Common.{◌≡◌, ℕ, zero, suc, ◌+◌, ◌-◌, ◌<◌, ◌≤◌, List, [], ◌∷◌, ◌++◌, length, get_or, take, drop, set, Some, None, Ordering, Equal, sym, refl, ap, ◌∙◌, subst, arith, length-drop, length-set, length-take}
 use Rattle.std.specs.List.{insert}
 use Rattle.std.proofs.lemmas.List.{take_at, drop_at, drop-drop, drop_all, drop-set-lt}
 use Rattle.std.proofs.lemmas.List.Edits.{length-insert}

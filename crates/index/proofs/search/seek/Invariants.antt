@@ -1,4 +1,4 @@
-use Rattle.std.proofs.Common.{ℕ, ◌-◌, ◌≤◌, take}
+use Rattle.std.proofs.Common.{◌-◌, ◌≤◌, take}
 use Rattle.index.specs.Entries.{Rising}
 use Rattle.index.specs.Search.{LessBefore, GreaterFrom}
 use Rattle.index.proofs.search.seek.Given as goal
