@@ -3,7 +3,6 @@ ghost use Rattle.std.specs.Prelude.{◌≡◌};
 ghost use Rattle.std.proofs.Math.Path.{ap};
 ghost use Rattle.index.specs.Orders.{number_order};
 ghost use Rattle.index.specs.Total.{number_total, total_by, turned_total};
-ghost use Rattle.checks.specs.DescendingKeyLemmas.{whole};
 
 use index::{EdgeIndex, Entry, Index, Key, Pair, TriangleIndex, Triple};
 use refusal::Refusal;
@@ -17,7 +16,7 @@ struct Descending(u16);
 impl Key for Descending {
     ghost order = { λ a b. number_order b.0 a.0 };
 
-    ghost total = { unfold whole in total_by (turned_total number_total) (λ a. a.0) (λ a b h. ap whole h) };
+    ghost total = { total_by (turned_total number_total) (λ a. a.0) (λ a b h. ap (λ n. record { 0 = n }) h) };
 
     fn compare(self, other: Descending) -> Ordering {
         other.0.cmp(&self.0)
@@ -65,7 +64,7 @@ fn entries_follow_the_order_of_their_keys(rt: HostRuntime) {
     put_all(&rt, &mut index);
     assert_eq!(rt;
         index.entries(),
-        [number(9, 90), number(6, 60), number(4, 40), number(1, 10)]
+        [number(9, 90), number(6, 60), number(4, 40), number(1, 10)].as_slice()
     );
     assert_eq!(rt;
         places,
@@ -89,7 +88,7 @@ fn an_equal_key_is_replaced(rt: HostRuntime) {
     assert_eq!(rt; index.put(number(1, 11)), Ok(()));
     assert_eq!(rt;
         index.entries(),
-        [number(9, 90), number(6, 61), number(4, 40), number(1, 11)]
+        [number(9, 90), number(6, 61), number(4, 40), number(1, 11)].as_slice()
     );
 }
 
@@ -118,7 +117,7 @@ fn a_full_index_takes_only_keys_that_it_has(rt: HostRuntime) {
     }
     assert_eq!(rt;
         index.entries(),
-        [number(9, 90), number(6, 60), number(4, 40), number(1, 10)]
+        [number(9, 90), number(6, 60), number(4, 40), number(1, 10)].as_slice()
     );
     assert_eq!(rt; index.put(number(4, 41)), Ok(()));
     assert_eq!(rt;
@@ -167,7 +166,7 @@ fn pairs_go_by_their_first_and_then_their_second(rt: HostRuntime) {
     assert_eq!(rt; index.len(), 4);
     assert_eq!(rt;
         index.entries(),
-        [pair(1, 4, 4), pair(1, 9, 2), pair(2, 3, 5), pair(2, 5, 1)]
+        [pair(1, 4, 4), pair(1, 9, 2), pair(2, 3, 5), pair(2, 5, 1)].as_slice()
     );
 }
 
@@ -210,5 +209,6 @@ fn triples_go_by_their_first_then_second_then_third(rt: HostRuntime) {
             triple(1, 2, 4, 5),
             triple(1, 3, 3, 2),
         ]
+        .as_slice()
     );
 }
