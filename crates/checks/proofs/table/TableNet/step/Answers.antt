@@ -5,14 +5,14 @@ use Rattle.checks.specs.Tables.{step_at}
 use Rattle.checks.proofs.TableJoins.{joined_listed}
 use Rattle.checks.proofs.table.TableNet.step.Goals as goal
 
-pub overflow-mul-result : goal.overflow-mul-result
-overflow-mul-result g c = let t = c.args.self.now in let l = joined_listed t.items t.names t.few c.args.item c.args.side (sym c.in-Some.ensures) in omega arith
+pub overflow_mul-result : goal.overflow_mul-result
+overflow_mul-result g c = let t = c.args.self.now in let l = joined_listed t.items t.names t.few c.args.item c.args.side (sym c.in-Some.ensures) in omega arith
 
-pub overflow-add-result : goal.overflow-add-result
-overflow-add-result g c = let t = c.args.self.now in let l = joined_listed t.items t.names t.few c.args.item c.args.side (sym c.in-Some.ensures) in omega arith
+pub overflow_add-result : goal.overflow_add-result
+overflow_add-result g c = let t = c.args.self.now in let l = joined_listed t.items t.names t.few c.args.item c.args.side (sym c.in-Some.ensures) in omega arith
 
-pub offset-bounds-self-item : goal.offset-bounds-self-item
-offset-bounds-self-item g c = let t = c.args.self.now in let l = joined_listed t.items t.names t.few c.args.item c.args.side (sym c.in-Some.ensures) in omega arith
+pub offset_bounds-self-item : goal.offset_bounds-self-item
+offset_bounds-self-item g c = let t = c.args.self.now in let l = joined_listed t.items t.names t.few c.args.item c.args.side (sym c.in-Some.ensures) in omega arith
 
 pub listed : goal.listed
 listed g c = let t = c.args.self.now in let l = joined_listed t.items t.names t.few c.args.item c.args.side (sym c.in-Some.ensures) in let e = t.long in omega arith
@@ -23,7 +23,7 @@ bounds-self-item g c = let t = c.args.self.now in joined_listed t.items t.names 
 pub returns-in-Some : goal.returns-in-Some
 returns-in-Some g c =
     let t = c.args.self.now in let i = c.args.item in let s = c.args.side in
-    let f = g.row.L-Label.meaning in
+    let f = g.L.Label.meaning in
     let l = joined_listed t.items t.names t.few c.args.item c.args.side (sym c.in-Some.ensures) in let e = t.long in
     sym (get_or-map f t.steps (2 * i + s) c.index-self-item.result 0 (omega arith))
-    ∙ ap (λ (o : Option Place). step_at o g.row.L-Label.kind.neutral (get_or (map f t.steps) (2 * i + s) 0)) c.in-Some.ensures
+    ∙ ap (λ (o : Option Place). step_at o g.L.Label.kind.neutral (get_or (map f t.steps) (2 * i + s) 0)) c.in-Some.ensures
