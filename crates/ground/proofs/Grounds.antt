@@ -1,11 +1,11 @@
 -- A ground's ghost fields as one record of facts, and its plain list.
-use Rattle.std.proofs.Common.{◌≡◌, ℕ, ◌+◌, ◌-◌, ◌*◌, ◌/◌, ◌<◌, ◌≤◌, List, [], ◌∷◌, length, get_or, None, sym, refl, ap, ◌∙◌, subst, arith}
+use Rattle.std.proofs.Common.{◌≡◌, ℕ, ◌+◌, ◌*◌, ◌<◌, ◌≤◌, List, length, get_or, None, sym, ◌∙◌, subst, arith}
 use Rattle.ground.specs.declared.stage.Open.{Open}
 use Rattle.ground.specs.declared.cell.Cell.{Cell}
 use Rattle.rules.specs.PlainList.{Plain}
-use Rattle.rules.specs.Tests.{on_face, Below, Differ, Apart}
+use Rattle.rules.specs.Tests.{on_face}
 use Rattle.ground.specs.Grounds.{plain}
-use Rattle.ground.specs.Records.{rows, join_at, blank, Near, AllNear, Four, JoinsNear, JoinsOther, JoinsSame, JoinsWhole}
+use Rattle.ground.specs.Records.{rows, join_at, blank, Near, AllNear}
 use Rattle.ground.specs.Searches.{Standing}
 use Rattle.ground.proofs.Records.{length_rows}
 use Rattle.ground.proofs.Turned.{Facts, exact_of, near_of, other_of, same_of, whole_of, near_some, join_at_lem}
@@ -66,28 +66,3 @@ facts_so cs cs' n n' p q f = subst (Facts cs') (sym q) (subst (λ (z : List Cell
 
 pub few_so : (old new : List Cell) → length new ≡ length old → length old ≤ 1024 → length new ≤ 1024
 few_so old new p l = omega arith
-
--- the ghost fields of a ground, in their order
-pub fields : (cs : List Cell) (n : ℕ) → length cs ≤ 1024 → Facts cs n
-    → (length cs ≤ 1024) × ((n ≤ length cs) × (Below (rows cs n) × (Differ (rows cs n) × (Apart (rows cs n) × (Four cs n
-    × (JoinsNear (4 * n) (join_at cs) × (JoinsOther (4 * n) (join_at cs) × (JoinsSame (on_face (rows cs n)) (4 * n) (join_at cs) × (JoinsWhole (on_face (rows cs n)) (4 * n) (join_at cs) × Unit {0})))))))))
-fields cs n few f =
-    let e = f.exact in (
-      few,
-      (
-        f.room,
-        (
-          f.below,
-          (
-            f.differ,
-            (
-              f.apart,
-              (
-                f.four,
-                (near_of (on_face (rows cs n)) (4 * n) (join_at cs) e, (other_of (on_face (rows cs n)) (4 * n) (join_at cs) e, (same_of (on_face (rows cs n)) (4 * n) (join_at cs) e, (whole_of (on_face (rows cs n)) (4 * n) (join_at cs) e, tt)))),
-              ),
-            ),
-          ),
-        ),
-      ),
-    )

@@ -1,5 +1,5 @@
 -- The stored joins are what the rows say.
-use Rattle.std.proofs.Common.{◌≡◌, ℕ, ◌*◌, ◌/◌, ◌%◌, ◌<◌, ◌≤◌, List, [], ◌∷◌, length, get_or, Some, None, Option, sym, refl, ap, ◌∙◌, subst, arith}
+use Rattle.std.proofs.Common.{◌≡◌, ℕ, ◌*◌, ◌/◌, ◌%◌, ◌<◌, ◌≤◌, List, [], length, get_or, Some, None, sym, ◌∙◌, arith}
 use Rattle.ground.specs.declared.cell.Cell.{Cell}
 use Rattle.rules.specs.Joins.{Half, Joined, OnSkin}
 use Rattle.rules.specs.Tests.{on_face}

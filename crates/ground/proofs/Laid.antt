@@ -1,17 +1,17 @@
 -- A cell that is laid: every fact of the ground stands after.
-use Rattle.std.proofs.Common.{◌≡◌, ℕ, ◌+◌, ◌*◌, ◌/◌, ◌%◌, ◌<◌, ◌≤◌, Bool, true, false, cond, not, ◌&&◌, ◌||◌, eqb, ◌≢◌, ◌⊎◌, List, [], ◌∷◌, ◌++◌, map, length, get_or, take, set, Some, None, Option, sym, refl, ap, ◌∙◌, subst, inl, inr, ⊎_elim, arith}
+use Rattle.std.proofs.Common.{◌≡◌, ℕ, ◌+◌, ◌*◌, ◌/◌, ◌%◌, ◌<◌, ◌≤◌, false, cond, List, [], ◌∷◌, ◌++◌, map, length, get_or, take, set, Some, None, Option, sym, ap, ◌∙◌, subst, ⊎_elim, arith}
 use Rattle.std.proofs.lemmas.List.{length-set, get_or-set_same, get_or-set_other, take_more_set, map_push, length_push, get_or_push, get_or_append_left}
-use Rattle.std.proofs.lemmas.Bool.{cases_eq, cases_lt, cond-true, cond-false, both_ways, or_from, or_left, or_right, and_from, not_from_false, eq-eqb, ne_eqb}
+use Rattle.std.proofs.lemmas.Bool.{cases_eq, cond-true, cond-false}
 use Rattle.ground.specs.declared.cell.Cell.{Cell}
 use Rattle.rules.specs.Tests.{on, on_face, Below, Differ, Apart, Fine, names}
 use Rattle.rules.proofs.Corners.{by_four, faces_apart}
 use Rattle.ground.specs.Records.{blank, corners_of, rows, join_at, relinked, relinked_all, faces_of, laid_cells, Four}
 use Rattle.ground.specs.Searches.{Met}
 use Rattle.rules.proofs.Append.{append_exact}
-use Rattle.rules.proofs.Exact.{Exact, named, names_some}
-use Rattle.ground.proofs.Records.{Held, length_rows, rows_relinked, length_relinked, join_at_here, join_at_there, join_at_relinked}
+use Rattle.rules.proofs.Exact.{Exact, names_some}
+use Rattle.ground.proofs.Records.{Held, length_rows, rows_relinked, length_relinked, join_at_there, join_at_relinked}
 use Rattle.rules.proofs.Swap.{unnamed}
-use Rattle.ground.proofs.Turned.{Facts, four_set, four_relinked, face_at, join_at_lem}
+use Rattle.ground.proofs.Turned.{Facts, four_relinked, face_at, join_at_lem}
 
 pub length_relinked_all : (cs : List Cell) (ws ts : List (Option ℕ)) → length (relinked_all cs ws ts) ≡ length cs
 length_relinked_all cs ws ts = length_relinked _ (get_or ws 3 None) _ ∙ length_relinked _ (get_or ws 2 None) _ ∙ length_relinked _ (get_or ws 1 None) _ ∙ length_relinked cs (get_or ws 0 None) _

@@ -1,9 +1,9 @@
 -- From what a scan has seen: the partners of the four triangles, or that one of them is in two cells.
-use Rattle.std.proofs.Common.{◌≡◌, ℕ, ◌+◌, ◌-◌, ◌*◌, ◌/◌, ◌%◌, ◌<◌, ◌≤◌, Bool, true, false, cond, not, ◌&&◌, ◌||◌, ◌⊎◌, List, [], ◌∷◌, length, get_or, is_some as option_is_some, Some, None, Option, sym, refl, ap, ◌∙◌, subst, inl, inr, ⊎_elim, arith}
+use Rattle.std.proofs.Common.{◌≡◌, ℕ, ◌+◌, ◌*◌, ◌/◌, ◌%◌, ◌<◌, ◌≤◌, true, false, ◌||◌, ◌⊎◌, List, [], length, get_or, is_some as option_is_some, Some, None, Option, sym, refl, ap, ◌∙◌, subst, inl, inr, ⊎_elim, arith}
 use Rattle.std.proofs.lemmas.Bool.{cases_eq, cases_order, false≢true, or_cases, or_parts, both_ways}
 use Rattle.ground.specs.declared.cell.Cell.{Cell}
 use Rattle.rules.specs.PlainList.{CrowdedIn, StandsIn}
-use Rattle.rules.specs.Tests.{on, on_face, Fine, SameOn}
+use Rattle.rules.specs.Tests.{on, on_face, Fine}
 use Rattle.rules.proofs.Corners.{triangle_to, triangle_from, vertices_to, by_four, faces_apart}
 use Rattle.ground.specs.Records.{rows, join_at, Near, AllNear}
 use Rattle.ground.specs.Searches.{Met, Lawful, Passed, joined_at, any_joined}

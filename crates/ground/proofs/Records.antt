@@ -1,12 +1,12 @@
 -- What one write of a record does to the rows and to the joins.
-use Rattle.std.proofs.Common.{◌≡◌, ℕ, ◌+◌, ◌*◌, ◌/◌, ◌%◌, ◌<◌, ◌≤◌, Bool, true, false, cond, not, ◌&&◌, ◌||◌, eqb, ◌≢◌, List, [], ◌∷◌, ◌++◌, map, length, get_or, take, set, Some, None, Option, sym, refl, ap, ◌∙◌, subst, ⊎_elim, arith}
+use Rattle.std.proofs.Common.{◌≡◌, ℕ, ◌+◌, ◌*◌, ◌/◌, ◌%◌, ◌<◌, ◌≤◌, cond, eqb, ◌≢◌, List, [], map, length, get_or, take, set, Some, None, Option, sym, refl, ap, ◌∙◌, ⊎_elim, arith}
 use lib.Seq.{take-set-lt}
 use Rattle.std.proofs.lemmas.List.{length-set, get_or-set_same, get_or-set_other, map-set, get_or-map, get_or-take, take-set-le, length-map, length-take-le, set-get_or}
-use Rattle.std.proofs.lemmas.Bool.{eqb-true, eq-eqb, ne_eqb, cases_eq, cases_lt, cond-true, cond-false}
+use Rattle.std.proofs.lemmas.Bool.{eq-eqb, ne_eqb, cases_eq, cases_lt, cond-true, cond-false}
 use Rattle.ground.specs.declared.cell.Cell.{Cell}
 use Rattle.rules.specs.Rows.{turned_row}
-use Rattle.rules.specs.Tests.{on, on_face, names}
-use Rattle.ground.specs.Records.{blank, corners_of, rows, join_at, Near, relinked, turned_cell, turned_cells}
+use Rattle.rules.specs.Tests.{on, names}
+use Rattle.ground.specs.Records.{blank, corners_of, rows, join_at, relinked, turned_cell, turned_cells}
 
 pub length_rows : (cs : List Cell) (n : ℕ) → n ≤ length cs → length (rows cs n) ≡ n
 length_rows cs n l = length-map (take n cs) corners_of ∙ length-take-le n cs l

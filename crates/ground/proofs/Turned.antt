@@ -1,14 +1,14 @@
 -- A turned cell: every fact of the ground stands after.
-use Rattle.std.proofs.Common.{◌≡◌, ℕ, ◌+◌, ◌*◌, ◌/◌, ◌%◌, ◌<◌, ◌≤◌, Bool, true, false, cond, not, ◌&&◌, ◌||◌, eqb, ◌≢◌, ◌⊎◌, List, [], ◌∷◌, ◌++◌, map, length, get_or, take, set, Some, None, Option, sym, refl, ap, ◌∙◌, subst, inl, inr, ⊎_elim, arith}
+use Rattle.std.proofs.Common.{◌≡◌, ℕ, ◌+◌, ◌*◌, ◌/◌, ◌%◌, ◌<◌, ◌≤◌, Bool, true, false, cond, ◌||◌, eqb, List, [], length, get_or, set, Some, None, Option, sym, refl, ap, ◌∙◌, subst, ⊎_elim, arith}
 use Rattle.std.proofs.lemmas.List.{length-set, get_or-set_same, get_or-set_other}
-use Rattle.std.proofs.lemmas.Bool.{eqb-true, eq-eqb, ne_eqb, cases_eq, cases_lt, cond-true, cond-false, false≢true, both_ways, or_from, or_right, or_left}
+use Rattle.std.proofs.lemmas.Bool.{eq-eqb, ne_eqb, cases_eq, both_ways, or_from, or_right}
 use Rattle.ground.specs.declared.cell.Cell.{Cell}
 use Rattle.rules.specs.Rows.{turned_row}
 use Rattle.rules.specs.Tests.{on, on_face, Below, Differ, Apart, names}
 use Rattle.rules.proofs.Corners.{by_four}
-use Rattle.ground.specs.Records.{blank, corners_of, rows, join_at, Near, relinked, turned_cell, turned_cells, Four, JoinsNear, JoinsOther, JoinsSame, JoinsWhole}
-use Rattle.rules.proofs.Exact.{Exact, named, names_some, back, renumber}
-use Rattle.ground.proofs.Records.{Held, length_rows, rows_at, rows_turned, length_relinked, join_at_here, join_at_there, join_at_relinked}
+use Rattle.ground.specs.Records.{blank, rows, join_at, Near, relinked, turned_cell, turned_cells, Four, JoinsNear, JoinsOther, JoinsSame, JoinsWhole}
+use Rattle.rules.proofs.Exact.{Exact, named, names_some}
+use Rattle.ground.proofs.Records.{Held, length_rows, rows_turned, length_relinked, join_at_there, join_at_relinked}
 use Rattle.rules.proofs.Swap.{swap_exact}
 
 pub exact_of : (F : ℕ → ℕ → Bool) (m : ℕ) (J : ℕ → Option ℕ) → JoinsNear m J → JoinsOther m J → JoinsSame F m J → JoinsWhole F m J → Exact F m J

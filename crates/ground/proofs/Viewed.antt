@@ -1,11 +1,10 @@
 -- What the ghost fields of the joined cells say: the joins that they store are those of the rows' nets.
-use Rattle.std.proofs.Common.{◌≡◌, ℕ, ◌+◌, ◌*◌, ◌/◌, ◌%◌, ◌<◌, ◌≤◌, List, [], length, get_or, Some, None, Option, sym, refl, ap, ◌∙◌, subst, arith}
+use Rattle.std.proofs.Common.{◌≡◌, ℕ, ◌+◌, ◌*◌, ◌/◌, ◌<◌, List, length, Some, Option, sym, ap, ◌∙◌, subst, arith}
 use Rattle.rules.specs.Tests.{on_face}
 use Rattle.rules.specs.NetTests.{partner, stepped, cell_steps}
 use Rattle.rules.specs.NetTests as net
 use Rattle.rules.proofs.Exact.{Exact}
 use Rattle.rules.proofs.Webbed.{opposite_is, partner_in, partner_from}
-use Rattle.ground.specs.declared.cell.Cell.{Cell}
 use Rattle.ground.specs.declared.joined.Joined.{Joined}
 use Rattle.ground.specs.Records.{rows, join_at}
 use Rattle.ground.proofs.Records.{length_rows}

@@ -1,5 +1,4 @@
 -- What the nets of a ground mean.
-use Rattle.std.specs.Prelude.{List}
 use Rattle.carry.specs.Webs.{Web}
 use Rattle.rules.specs.NetTests.{turn_web}
 use Rattle.ground.specs.declared.turn_net.TurnNet.{TurnNet}

@@ -1,5 +1,5 @@
 -- The records of a ground: each has the four corners of a cell and, for each half-face, the half-face that it is joined to.
-use Rattle.std.specs.Prelude.{◌≡◌, ℕ, ◌+◌, ◌-◌, ◌*◌, ◌/◌, ◌%◌, ◌<◌, ◌≤◌, Bool, true, false, cond, List, [], ◌∷◌, map, length, get_or, take, Some, None, Option, ◌≢◌, nat_lt, slice_index, slice_index_or, slice_set}
+use Rattle.std.specs.Prelude.{◌≡◌, ℕ, ◌+◌, ◌*◌, ◌/◌, ◌%◌, ◌<◌, Bool, true, cond, List, [], ◌∷◌, map, length, get_or, take, Some, None, Option, ◌≢◌, nat_lt, slice_index, slice_index_or, slice_set}
 use Rattle.rules.specs.Tests.{names}
 use Rattle.ground.specs.declared.cell.Cell.{Cell}
 

@@ -92,8 +92,8 @@ impl Test for LowerOfTwo<'_> {
 
 // How many numbers below n pass.
 pub(crate) fn count_passing<T: Test>(test: &T, n: usize) -> usize
-    requires { n ≤ limit test.now }
-    ensures { (result ≡ length (picks (passes test.now) n)) × (result ≤ n) }
+    requires { n ≤ T.limit test.now }
+    ensures { (result ≡ length (picks (T.passes test.now) n)) × (result ≤ n) }
 {
     let mut found = 0;
     for k in 0..n {
@@ -106,11 +106,11 @@ pub(crate) fn count_passing<T: Test>(test: &T, n: usize) -> usize
 
 // Writes the numbers below n that pass, in rising order.
 fn write_passing<T: Test>(test: &T, n: usize, out: &mut [u16])
-    requires inside { n ≤ limit test.now }
+    requires inside { n ≤ T.limit test.now }
     requires few { n ≤ 4096 }
-    requires fits { length (picks (passes test.now) n) ≤ length out.old }
-    ensures first { take (length (picks (passes test.now) n)) out.new ≡ picks (passes test.now) n }
-    ensures rest { drop (length (picks (passes test.now) n)) out.new ≡ drop (length (picks (passes test.now) n)) out.old }
+    requires fits { length (picks (T.passes test.now) n) ≤ length out.old }
+    ensures first { take (length (picks (T.passes test.now) n)) out.new ≡ picks (T.passes test.now) n }
+    ensures rest { drop (length (picks (T.passes test.now) n)) out.new ≡ drop (length (picks (T.passes test.now) n)) out.old }
 {
     let mut found = 0;
     for k in 0..n {
@@ -123,9 +123,9 @@ fn write_passing<T: Test>(test: &T, n: usize, out: &mut [u16])
 
 // Writes the numbers below n that pass and answers how many there are. They are counted first, so that a refusal writes nothing.
 pub(crate) fn list_passing<T: Test>(test: &T, n: usize, out: &mut [u16]) -> Result<usize, Refusal>
-    requires inside { n ≤ limit test.now }
+    requires inside { n ≤ T.limit test.now }
     requires few { n ≤ 4096 }
-    ensures { Written (passes test.now) n out.old result out.new }
+    ensures { Written (T.passes test.now) n out.old result out.new }
 {
     let found = count_passing(test, n);
     if found > out.len() {

@@ -1,4 +1,4 @@
-use Rattle.std.proofs.Common.{◌≡◌, ℕ, zero, suc, ◌+◌, ◌<◌, ◌≤◌, List, [], length, get_or, take, set, sym, refl, ap, ◌∙◌, subst, add-one, arith}
+use Rattle.std.proofs.Common.{◌≡◌, ℕ, suc, ◌+◌, ◌<◌, List, [], length, get_or, take, set, sym, refl, ap, ◌∙◌, subst, add-one, arith, rules}
 use Rattle.carry.specs.declared.turn.Turn.TheVariants.{Straight, Turned}
 use Rattle.carry.specs.Counting.{Counts}
 use Rattle.carry.specs.Counting.Counts.{none, one, skip}
@@ -14,13 +14,13 @@ use Rattle.ground.proofs.Turned.{turned_facts}
 use Rattle.ground.proofs.links.turn_labelled.Goals as goal
 use Rattle.ground.proofs.links.turn_labelled.Goals.{then-eq, else-eq}
 
-pub turn-cell-requires : goal.turn-cell-requires
-turn-cell-requires c =
+pub turn_cell-requires : goal.turn_cell-requires
+turn_cell-requires c =
     let s = c.loop-t.invariant.0 in
     let l = c.loop-t-test.true in
     let r = s.room in
     let m = c.requires.few in
-    ((omega arith, omega arith), near_all c.loop-t.cells c.args.count c.loop-t.t (facts_of c.loop-t.cells c.args.count s) l)
+    record { t_bound = (omega arith, omega arith); all_near = near_all c.loop-t.cells c.args.count c.loop-t.t (facts_of c.loop-t.cells c.args.count s) l }
 
 pub loop-t-init : goal.loop-t-init
 loop-t-init c = (c.requires.standing, refl, none, omega arith)
@@ -43,8 +43,8 @@ loop-t-preserved c =
     let up : (k : ℕ) → Counts P (suc t) k → Counts P (t + 1) k = λ k x. subst (λ (i : ℕ). Counts P i k) (sym (add-one t)) x in
     elim c.if-eq.branch [
       | then-eq w ↦
-          (let is : c.if-eq.cells ≡ turned_cells cs t = w.cells-is ∙ w.turn-cell.ensures in
-          let b = w.if-eq.ensures in (
+          (let is : c.if-eq.cells ≡ turned_cells cs t = w.cells-is ∙ w.turn_cell.ensures in
+          let b : get_or xs t Straight ≡ Turned = search (rules, w.if-eq.ensures) in (
             subst (λ (z : List Cell). Standing z n) (sym is) (standing_of (turned_cells cs t) n (turned_facts cs n t l (facts_of cs n s))),
             ap (λ (z : List Cell). rows z n) is ∙ rows_turned cs n t s.room l
                 ∙ ap (λ (z : List (List ℕ)). set z t (turned_row (get_or z t []))) e
@@ -53,7 +53,7 @@ loop-t-preserved c =
             omega (arith, w.turned-is),
           ))
       | else-eq w ↦
-          (let b = w.if-eq.ensures in (
+          (let b : get_or xs t Straight ≡ Turned → ⊥ = search (rules, w.if-eq.ensures) in (
             subst (λ (z : List Cell). Standing z n) (sym w.cells-is) s,
             ap (λ (z : List Cell). rows z n) w.cells-is ∙ e
                 ∙ turned_skip xs rs t lr lx b ∙ ap (λ (k : ℕ). turned_by (take k xs) rs) (sym (add-one t)),

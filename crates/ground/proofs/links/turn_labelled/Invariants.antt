@@ -1,4 +1,4 @@
-use Rattle.std.proofs.Common.{◌≡◌, ℕ, ◌≤◌, get_or, take}
+use Rattle.std.proofs.Common.{◌≡◌, ◌≤◌, get_or, take}
 use Rattle.carry.specs.declared.turn.Turn.TheVariants.{Straight, Turned}
 use Rattle.carry.specs.Counting.{Counts}
 use Rattle.rules.specs.Nets.{turned_by}

@@ -1,4 +1,4 @@
-use Rattle.std.proofs.Common.{◌≡◌, sym, refl, ap, ◌∙◌, arith}
+use Rattle.std.proofs.Common.{sym}
 use Rattle.rules.proofs.Listed.{count_on, count_off}
 use Rattle.ground.proofs.listing.count_passing.Goals as goal
 use Rattle.ground.proofs.listing.count_passing.Goals.{then-pass, else-pass}

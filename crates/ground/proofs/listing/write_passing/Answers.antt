@@ -1,5 +1,5 @@
-use Rattle.std.proofs.Common.{◌≡◌, ℕ, ◌+◌, ◌*◌, ◌/◌, ◌%◌, ◌<◌, ◌≤◌, length, sym, refl, ap, ◌∙◌, subst, arith}
-use Rattle.rules.proofs.Listed.{Writing, place_for, write_on, write_off, write_done}
+use Rattle.std.proofs.Common.{◌≡◌, length, sym, refl, arith}
+use Rattle.rules.proofs.Listed.{place_for, write_on, write_off, write_done}
 use Rattle.ground.proofs.listing.write_passing.Goals as goal
 use Rattle.ground.proofs.listing.write_passing.Goals.{then-pass, else-pass}
 

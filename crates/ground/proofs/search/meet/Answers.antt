@@ -1,4 +1,4 @@
-use Rattle.std.proofs.Common.{◌≡◌, sym, refl, ap, ◌∙◌, subst, arith}
+use Rattle.std.proofs.Common.{arith}
 use Rattle.ground.proofs.Shared.{unmet}
 use Rattle.ground.proofs.search.meet.Goals as goal
 

@@ -2,10 +2,10 @@ use Rattle.std.proofs.Common.{rules}
 use Rattle.ground.specs.Searches.{same_face}
 use Rattle.ground.proofs.search.same_vertices.Goals as goal
 
-pub returns-then-lies-on : goal.returns-then-lies-on
+pub returns-then-lies_on : goal.returns-then-lies_on
 unfolding same_face
-returns-then-lies-on c = search rules
+returns-then-lies_on c = search rules
 
-pub returns-else-lies-on : goal.returns-else-lies-on
+pub returns-else-lies_on : goal.returns-else-lies_on
 unfolding same_face
-returns-else-lies-on c = search rules
+returns-else-lies_on c = search rules

@@ -1,6 +1,6 @@
 use Rattle.ground.proofs.joined.Joined.over.Goals as goal
 
-pub invariant-of-result : goal.invariant-of-result
-invariant-of-result c =
+pub invariant_of-result : goal.invariant_of-result
+invariant_of-result c =
     let l = c.requires.lawful in
-    (c.requires.few, (c.requires.room, (l.below, (l.differ, (l.near, (l.other, (l.same, (l.whole, tt))))))))
+    record { few = c.requires.few; room = c.requires.room; below = l.below; differ = l.differ; near = l.near; other = l.other; same = l.same; whole = l.whole }

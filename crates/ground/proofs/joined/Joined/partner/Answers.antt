@@ -1,4 +1,4 @@
-use Rattle.std.proofs.Common.{◌≡◌, ◌⊎◌, sym, ◌∙◌, inl, inr, ⊎_elim, arith}
+use Rattle.std.proofs.Common.{sym, inl, inr, ⊎_elim}
 use Rattle.rules.proofs.Webbed.{partner_out, outside}
 use Rattle.ground.proofs.Viewed.{view_stored, rows_of, many_of}
 use Rattle.ground.proofs.joined.Joined.partner.Goals as goal

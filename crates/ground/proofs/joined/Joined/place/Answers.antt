@@ -1,4 +1,4 @@
-use Rattle.std.proofs.Common.{◌≡◌, ap}
+use Rattle.std.proofs.Common.{ap}
 use Rattle.rules.specs.NetTests.{placed, cell_joins}
 use Rattle.ground.proofs.joined.Joined.place.Goals as goal
 

@@ -1,4 +1,4 @@
-use Rattle.std.proofs.Common.{◌≡◌, ℕ, ◌/◌, ◌%◌, List, sym, ap, ◌∙◌}
+use Rattle.std.proofs.Common.{ℕ, ◌/◌, ◌%◌, List, sym, ap, ◌∙◌}
 use Rattle.rules.specs.Readings.{face, listed}
 use Rattle.ground.proofs.Records.{rows_at}
 use Rattle.ground.proofs.joined.Joined.reading.Goals as goal

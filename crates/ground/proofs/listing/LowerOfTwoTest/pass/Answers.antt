@@ -1,4 +1,4 @@
-use Rattle.std.proofs.Common.{◌≡◌, ℕ, Option, sym, refl, ap, ◌∙◌}
+use Rattle.std.proofs.Common.{ℕ, Option, ap}
 use Rattle.ground.specs.Listed.{higher_there, lower_at}
 use Rattle.ground.proofs.listing.LowerOfTwoTest.pass.Goals as goal
 

@@ -1,4 +1,4 @@
-use Rattle.std.proofs.Common.{◌≡◌, ℕ, Bool, true, false, not, is_some, Some, None, Option, sym, refl, ap, ◌∙◌}
+use Rattle.std.proofs.Common.{◌≡◌, ℕ, Bool, true, false, not, is_some, Some, None, Option, refl, ap, ◌∙◌}
 use Rattle.ground.specs.Listed.{none_there, open_at}
 use Rattle.ground.proofs.listing.UnjoinedTest.pass.Goals as goal
 
@@ -10,4 +10,4 @@ none_is (Some g) false e = refl
 
 pub returns : goal.returns
 unfolding open_at
-returns c = none_is c.opposite.result c.is-none.result c.is-none.ensures ∙ ap none_there c.opposite.ensures
+returns c = none_is c.opposite.result c.is_none.result c.is_none.ensures ∙ ap none_there c.opposite.ensures

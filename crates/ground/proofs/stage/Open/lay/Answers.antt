@@ -1,18 +1,17 @@
-use Rattle.std.proofs.Common.{◌≡◌, ℕ, ◌+◌, ◌*◌, ◌/◌, ◌<◌, ◌≤◌, min, ◌⊎◌, List, [], ◌∷◌, ◌++◌, length, get_or, set, Some, None, Option, sym, refl, ap, ◌∙◌, subst, inl, inr, ⊎_elim, arith}
+use Rattle.std.proofs.Common.{ℕ, ◌+◌, ◌*◌, ◌<◌, ◌≤◌, List, [], ◌∷◌, length, get_or, None, Option, sym, refl, ap, ◌∙◌, subst, ⊎_elim, arith}
 use Rattle.ground.specs.declared.cell.Cell.{Cell}
 use Rattle.ground.specs.declared.stage.Open.{Open}
 use Rattle.rules.specs.PlainList.{LayCause}
-use Rattle.rules.specs.Tests.{on_face}
 use Rattle.rules.proofs.Causes.{first_high, first_equal, first-full, first-present, first_taken, no_cause}
 use Rattle.rules.proofs.Corners.{vertices_to}
 use Rattle.rules.proofs.Judged.{high_so, repeat_so, not_high, not_repeated, fine_so}
 use Rattle.refusal.specs.Causes.{First}
 use Rattle.ground.specs.Grounds.{plain}
-use Rattle.ground.specs.Records.{rows, join_at, Near, laid_cells}
+use Rattle.ground.specs.Records.{rows, Near, laid_cells}
 use Rattle.ground.specs.Searches.{Met}
-use Rattle.ground.proofs.Grounds.{facts, facts_so, few_so, fields, many, same_plain}
+use Rattle.ground.proofs.Grounds.{facts, facts_so, few_so, many, same_plain, standing_of}
 use Rattle.ground.proofs.Laid.{rows_laid, length_laid, laid_facts}
-use Rattle.ground.proofs.Turned.{Facts, near_some}
+use Rattle.ground.proofs.Turned.{near_some}
 use Rattle.ground.proofs.stage.Open.lay.Goals as goal
 
 full : (g : Open) → length g.cells.records.now ≤ g.cells.count → (plain g).places ≤ length (plain g).list
@@ -28,11 +27,11 @@ near_met g x ws m i l = near_some (length g.cells.records.now) (get_or ws i None
     let e = many g in
     omega arith)
 
-pub returns-then-too-high : goal.returns-then-too-high
-returns-then-too-high c =
+pub returns-then-too_high : goal.returns-then-too_high
+returns-then-too_high c =
     let x = c.args.a ∷ c.args.b ∷ c.args.c ∷ c.args.d ∷ [] in
     record {
-      lays = (first_high (plain c.args.self.now) x (high_so x (sym c.too-high.ensures ∙ c.if-too-high.true)), refl);
+      lays = (first_high (plain c.args.self.now) x (high_so x (sym c.too_high.ensures ∙ c.if-too_high.true)), refl);
       kept = refl;
     }
 
@@ -40,7 +39,7 @@ pub returns-then-repeated : goal.returns-then-repeated
 returns-then-repeated c =
     let x = c.args.a ∷ c.args.b ∷ c.args.c ∷ c.args.d ∷ [] in
     record {
-      lays = (first_equal (plain c.args.self.now) x (not_high x (sym c.too-high.ensures ∙ c.if-too-high.false)) (repeat_so x (sym c.repeated.ensures ∙ c.if_repeated.true)), refl);
+      lays = (first_equal (plain c.args.self.now) x (not_high x (sym c.too_high.ensures ∙ c.if-too_high.false)) (repeat_so x (sym c.repeated.ensures ∙ c.if-repeated.true)), refl);
       kept = refl;
     }
 
@@ -49,7 +48,7 @@ returns-then-count-self c =
     let x = c.args.a ∷ c.args.b ∷ c.args.c ∷ c.args.d ∷ [] in
     record {
       lays = (
-        first-full (plain c.args.self.now) x (not_high x (sym c.too-high.ensures ∙ c.if-too-high.false)) (not_repeated x (sym c.repeated.ensures ∙ c.if_repeated.false))
+        first-full (plain c.args.self.now) x (not_high x (sym c.too_high.ensures ∙ c.if-too_high.false)) (not_repeated x (sym c.repeated.ensures ∙ c.if-repeated.false))
             (full c.args.self.now c.if-count-self.true),
         refl,
       );
@@ -75,25 +74,36 @@ append-requires c =
       ),
     )
 
-pub invariant-of-self : goal.invariant-of-self
-invariant-of-self c =
+pub invariant_of-self : goal.invariant_of-self
+invariant_of-self c =
     let g = c.args.self.now in
     let x = c.args.a ∷ c.args.b ∷ c.args.c ∷ c.args.d ∷ [] in
     let m = c.in-Ok.ensures in
-    fields c.append.new.self.records.now c.append.new.self.count
-    (few_so g.cells.records.now c.append.new.self.records.now (ap length c.append.ensures.records ∙ length_laid g.cells.records.now g.cells.count x c.in-Ok.joins) g.few)
+    let s = standing_of c.append.new.self.records.now c.append.new.self.count
     (facts_so (laid_cells g.cells.records.now g.cells.count x c.in-Ok.joins) _ (g.cells.count + 1) _ c.append.ensures.records c.append.ensures.many
     (laid_facts g.cells.records.now g.cells.count x c.in-Ok.joins c.if-count-self.false
-    (fine_so x (sym c.too-high.ensures ∙ c.if-too-high.false) (sym c.repeated.ensures ∙ c.if_repeated.false))
-    m.2 (facts g) m.0))
+    (fine_so x (sym c.too_high.ensures ∙ c.if-too_high.false) (sym c.repeated.ensures ∙ c.if-repeated.false))
+    m.2 (facts g) m.0)) in
+    record {
+      few = few_so g.cells.records.now c.append.new.self.records.now (ap length c.append.ensures.records ∙ length_laid g.cells.records.now g.cells.count x c.in-Ok.joins) g.few;
+      room = s.room;
+      below = s.law.below;
+      differ = s.law.differ;
+      apart = s.apart;
+      four = s.four;
+      near = s.law.near;
+      other = s.law.other;
+      same = s.law.same;
+      whole = s.law.whole;
+    }
 
 pub returns-in-Err : goal.returns-in-Err
 returns-in-Err c =
     let g = c.args.self.now in
     let p = plain g in
     let x = c.args.a ∷ c.args.b ∷ c.args.c ∷ c.args.d ∷ [] in
-    let a = not_high x (sym c.too-high.ensures ∙ c.if-too-high.false) in
-    let b = not_repeated x (sym c.repeated.ensures ∙ c.if_repeated.false) in
+    let a = not_high x (sym c.too_high.ensures ∙ c.if-too_high.false) in
+    let b = not_repeated x (sym c.repeated.ensures ∙ c.if-repeated.false) in
     let e = not_full g c.if-count-self.false in
     record {
       lays = (
@@ -111,8 +121,8 @@ returns-in-Ok c =
     let g = c.args.self.now in
     let x = c.args.a ∷ c.args.b ∷ c.args.c ∷ c.args.d ∷ [] in
     let ws = c.in-Ok.joins in
-    let a = not_high x (sym c.too-high.ensures ∙ c.if-too-high.false) in
-    let b = not_repeated x (sym c.repeated.ensures ∙ c.if_repeated.false) in
+    let a = not_high x (sym c.too_high.ensures ∙ c.if-too_high.false) in
+    let b = not_repeated x (sym c.repeated.ensures ∙ c.if-repeated.false) in
     let e = not_full g c.if-count-self.false in
     let m = c.in-Ok.ensures in
     record {
@@ -125,7 +135,7 @@ returns-in-Ok c =
               ∙ ap (λ (z : List Cell). rows z (g.cells.count + 1)) c.append.ensures.records
               ∙ rows_laid g.cells.records.now g.cells.count x ws c.if-count-self.false)
               (ap length c.append.ensures.records ∙ length_laid g.cells.records.now g.cells.count x ws)
-              c.one-more-self.ensures,
+              c.one_more-self.ensures,
         ),
       );
       kept = tt;

@@ -1,11 +1,10 @@
-use Rattle.std.proofs.Common.{◌≡◌, ℕ, ◌+◌, ◌-◌, ◌*◌, ◌<◌, ◌≤◌, List, [], length, get_or, take, set, sym, refl, ap, ◌∙◌, subst, arith}
+use Rattle.std.proofs.Common.{◌≡◌, ℕ, ◌+◌, ◌-◌, ◌<◌, ◌≤◌, List, [], length, get_or, take, set, sym, refl, ap, ◌∙◌, subst, arith}
 use Rattle.ground.specs.declared.cell.Cell.{Cell}
 use Rattle.ground.specs.declared.stage.Open.{Open}
-use Rattle.rules.specs.Tests.{on_face}
 use Rattle.rules.proofs.Causes.{first_no_row, no_row_cause}
 use Rattle.ground.specs.Grounds.{plain}
-use Rattle.ground.specs.Records.{rows, join_at, lifted_cells}
-use Rattle.ground.proofs.Grounds.{facts, facts_so, few_so, fields, many, same_plain}
+use Rattle.ground.specs.Records.{rows, lifted_cells}
+use Rattle.ground.proofs.Grounds.{facts, facts_so, few_so, many, same_plain, standing_of}
 use Rattle.ground.proofs.Removed.{near_t, near_p, lifted_facts, rows_lifted, length_lifted}
 use Rattle.ground.proofs.Turned.{Facts}
 use Rattle.ground.proofs.stage.Open.lift.Goals as goal
@@ -28,23 +27,34 @@ remove-requires c =
     let t = c.args.t in
     let l : t < g.cells.count = c.if-t-self.false in
     let few = g.few in
-    let room = g.room in (
-      (l, (omega arith, room)),
-      near_t g.cells.records.now (g.cells.count - 1) t (omega arith) (facts_last g t l),
-      near_p g.cells.records.now (g.cells.count - 1) t (omega arith) (facts_last g t l),
-    )
+    let room = g.room in (record {
+      t_lt_count = (l, (omega arith, room));
+      all_near = near_t g.cells.records.now (g.cells.count - 1) t (omega arith) (facts_last g t l);
+      all_near_2 = near_p g.cells.records.now (g.cells.count - 1) t (omega arith) (facts_last g t l);
+    })
 
-pub invariant-of-self : goal.invariant-of-self
-invariant-of-self c =
+pub invariant_of-self : goal.invariant_of-self
+invariant_of-self c =
     let g = c.args.self.now in
     let t = c.args.t in
     let l : t < g.cells.count = c.if-t-self.false in
     let le : t ≤ g.cells.count - 1 = omega arith in
-    fields c.remove.new.self.records.now c.remove.new.self.count
-    (few_so g.cells.records.now c.remove.new.self.records.now
-    (ap length c.remove.ensures.records ∙ length_lifted g.cells.records.now (g.cells.count - 1) c.args.t le (facts_last g t l)) g.few)
+    let s = standing_of c.remove.new.self.records.now c.remove.new.self.count
     (facts_so (lifted_cells g.cells.records.now (g.cells.count - 1) c.args.t) _ (g.cells.count - 1) _ c.remove.ensures.records c.remove.ensures.many
-    (lifted_facts g.cells.records.now (g.cells.count - 1) c.args.t le (facts_last g t l)))
+    (lifted_facts g.cells.records.now (g.cells.count - 1) c.args.t le (facts_last g t l))) in
+    record {
+      few = few_so g.cells.records.now c.remove.new.self.records.now
+          (ap length c.remove.ensures.records ∙ length_lifted g.cells.records.now (g.cells.count - 1) c.args.t le (facts_last g t l)) g.few;
+      room = s.room;
+      below = s.law.below;
+      differ = s.law.differ;
+      apart = s.apart;
+      four = s.four;
+      near = s.law.near;
+      other = s.law.other;
+      same = s.law.same;
+      whole = s.law.whole;
+    }
 
 -- the last row is written over row t, and dropped
 rows_after : (g : Open) (t : ℕ) → t < g.cells.count
@@ -68,7 +78,7 @@ returns c =
             ∙ ap (λ (z : List Cell). rows z (g.cells.count - 1)) c.remove.ensures.records
             ∙ rows_after g t l)
             (ap length c.remove.ensures.records ∙ length_lifted g.cells.records.now (g.cells.count - 1) t (omega arith) (facts_last g t l))
-            c.one-more-self.ensures,
+            c.one_more-self.ensures,
       );
       kept = tt;
     }

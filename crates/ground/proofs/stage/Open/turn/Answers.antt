@@ -1,12 +1,11 @@
-use Rattle.std.proofs.Common.{◌≡◌, ℕ, ◌+◌, ◌-◌, ◌*◌, ◌/◌, ◌<◌, ◌≤◌, List, [], length, get_or, take, set, sym, refl, ap, ◌∙◌, subst, arith}
+use Rattle.std.proofs.Common.{ℕ, ◌<◌, List, length, refl, ap, ◌∙◌, arith}
 use Rattle.ground.specs.declared.cell.Cell.{Cell}
-use Rattle.ground.specs.declared.stage.Open.{Open}
 use Rattle.rules.proofs.Causes.{first_no_row, no_row_cause}
 use Rattle.ground.specs.Grounds.{plain}
 use Rattle.ground.specs.Records.{rows, turned_cells}
-use Rattle.ground.proofs.Grounds.{facts, facts_so, few_so, fields, many, near_all, same_plain}
+use Rattle.ground.proofs.Grounds.{facts, facts_so, few_so, many, near_all, same_plain, standing_of}
 use Rattle.ground.proofs.Records.{rows_turned}
-use Rattle.ground.proofs.Turned.{Facts, turned_facts, length_turned}
+use Rattle.ground.proofs.Turned.{turned_facts, length_turned}
 use Rattle.ground.proofs.stage.Open.turn.Goals as goal
 
 pub returns-then-t-self : goal.returns-then-t-self
@@ -20,18 +19,29 @@ turn-requires c =
     let t = c.args.t in
     let l : t < g.cells.count = c.if-t-self.false in
     let few = g.few in
-    let room = g.room in (
-      (omega arith, omega arith),
-      near_all g.cells.records.now g.cells.count t (facts g) l,
-    )
+    let room = g.room in (record {
+      t_bound = (omega arith, omega arith);
+      all_near = near_all g.cells.records.now g.cells.count t (facts g) l;
+    })
 
-pub invariant-of-self : goal.invariant-of-self
-invariant-of-self c =
+pub invariant_of-self : goal.invariant_of-self
+invariant_of-self c =
     let g = c.args.self.now in
-    fields c.turn.new.self.records.now c.turn.new.self.count
-    (few_so g.cells.records.now c.turn.new.self.records.now (ap length c.turn.ensures.records ∙ length_turned g.cells.records.now c.args.t) g.few)
+    let s = standing_of c.turn.new.self.records.now c.turn.new.self.count
     (facts_so (turned_cells g.cells.records.now c.args.t) _ g.cells.count _ c.turn.ensures.records c.turn.ensures.many
-    (turned_facts g.cells.records.now g.cells.count c.args.t c.if-t-self.false (facts g)))
+    (turned_facts g.cells.records.now g.cells.count c.args.t c.if-t-self.false (facts g))) in
+    record {
+      few = few_so g.cells.records.now c.turn.new.self.records.now (ap length c.turn.ensures.records ∙ length_turned g.cells.records.now c.args.t) g.few;
+      room = s.room;
+      below = s.law.below;
+      differ = s.law.differ;
+      apart = s.apart;
+      four = s.four;
+      near = s.law.near;
+      other = s.law.other;
+      same = s.law.same;
+      whole = s.law.whole;
+    }
 
 pub returns : goal.returns
 returns c =
@@ -46,7 +56,7 @@ returns c =
             ∙ ap (λ (z : List Cell). rows z g.cells.count) c.turn.ensures.records
             ∙ rows_turned g.cells.records.now g.cells.count t g.room l)
             (ap length c.turn.ensures.records ∙ length_turned g.cells.records.now t)
-            c.one-more-self.ensures,
+            c.one_more-self.ensures,
       );
       kept = tt;
     }

@@ -1,4 +1,4 @@
-use Rattle.std.proofs.Common.{◌≡◌, ℕ, ◌+◌, ◌*◌, ◌/◌, ◌%◌, ◌<◌, ◌≤◌, List, length, sym, refl, ap, ◌∙◌, subst, arith}
+use Rattle.std.proofs.Common.{◌*◌, sym, ◌∙◌, arith}
 use Rattle.rules.specs.Tests.{picks}
 use Rattle.ground.specs.Listed.{open_at, lower_at}
 use Rattle.ground.proofs.Asked.{law, many, lawful, skin_listed, lower_listed}

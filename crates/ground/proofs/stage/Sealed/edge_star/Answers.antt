@@ -1,4 +1,4 @@
-use Rattle.std.proofs.Common.{◌≡◌, ℕ, ◌*◌, ◌<◌, ◌≤◌, List, length, sym, refl, ap, ◌∙◌, subst, arith}
+use Rattle.std.proofs.Common.{length, refl}
 use Rattle.rules.specs.Questions.{AtEdge, EdgeStarCause}
 use Rattle.rules.specs.Tests.{picks}
 use Rattle.rules.proofs.Causes.{edge_first_high, edge_first_high_other, edge-first-equal, edge-first-short, no-edge-cause}
@@ -26,5 +26,5 @@ returns c =
     let n = length c.args.out.now in
     let ks = picks (has_both g.cells.records.now v w) g.cells.count in
     let a = edge_listed g.cells.records.now g.cells.count g.room v w in
-    told (EdgeStarCause rs v w n) (AtEdge rs v w) (has_both g.cells.records.now v w) g.cells.count a c.args.out.now c.list-star.new.out c.list-star.result c.list-star.auto.out
-    (edge-first-short rs v w n c.if-v-gt4095.false c.if-w-gt4095.false ks c.if-v-w.false a) (no-edge-cause rs v w n c.if-v-gt4095.false c.if-w-gt4095.false ks c.if-v-w.false a) c.list-star.ensures
+    told (EdgeStarCause rs v w n) (AtEdge rs v w) (has_both g.cells.records.now v w) g.cells.count a c.args.out.now c.list_star.new.out c.list_star.result c.list_star.auto.out
+    (edge-first-short rs v w n c.if-v-gt4095.false c.if-w-gt4095.false ks c.if-v-w.false a) (no-edge-cause rs v w n c.if-v-gt4095.false c.if-w-gt4095.false ks c.if-v-w.false a) c.list_star.ensures

@@ -1,4 +1,4 @@
-use Rattle.std.proofs.Common.{◌≡◌, ℕ, ◌+◌, ◌*◌, ◌/◌, ◌%◌, ◌<◌, ◌≤◌, List, length, sym, refl, ap, ◌∙◌, subst, arith}
+use Rattle.std.proofs.Common.{arith}
 use Rattle.rules.proofs.Causes.{first_no_half, no_half_cause}
 use Rattle.ground.specs.Grounds.{plain_sealed}
 use Rattle.ground.proofs.Asked.{law, many, opposite_so, only_so}
@@ -11,7 +11,7 @@ returns-then-h-self c =
     record {
       tells = first_no_half (plain_sealed g).list c.args.h (omega (arith, many g, c.if-h-self.true));
       only = tt;
-      no_three_lem = joined_one g.cells.records.now g.cells.count g.room (law g);
+      no_three = joined_one g.cells.records.now g.cells.count g.room (law g);
     }
 
 pub returns : goal.returns
@@ -23,5 +23,5 @@ returns c =
         opposite_so g c.args.h c.opposite.result c.if-h-self.false c.opposite.ensures,
       );
       only = only_so g c.args.h c.opposite.result (opposite_so g c.args.h c.opposite.result c.if-h-self.false c.opposite.ensures);
-      no_three_lem = joined_one g.cells.records.now g.cells.count g.room (law g);
+      no_three = joined_one g.cells.records.now g.cells.count g.room (law g);
     }

@@ -1,4 +1,4 @@
-use Rattle.std.proofs.Common.{◌≡◌, ℕ, ◌+◌, ◌*◌, ◌/◌, ◌%◌, ◌<◌, ◌≤◌, List, length, sym, refl, ap, ◌∙◌, subst, arith}
+use Rattle.std.proofs.Common.{ℕ, ◌/◌, ◌%◌, ◌<◌, List, sym, ap, ◌∙◌, arith}
 use Rattle.rules.specs.Readings.{face, listed}
 use Rattle.rules.proofs.Causes.{first_no_half, no_half_cause}
 use Rattle.ground.specs.Grounds.{plain_sealed}

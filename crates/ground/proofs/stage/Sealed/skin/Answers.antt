@@ -1,4 +1,4 @@
-use Rattle.std.proofs.Common.{◌≡◌, ℕ, ◌*◌, ◌<◌, ◌≤◌, List, length, sym, refl, ap, ◌∙◌, subst, arith}
+use Rattle.std.proofs.Common.{◌*◌, length}
 use Rattle.rules.specs.Joins.{OnSkin}
 use Rattle.rules.specs.Questions.{SkinCause}
 use Rattle.rules.specs.Tests.{picks}
@@ -16,5 +16,5 @@ returns c =
     let n = length c.args.out.now in
     let ks = picks (open_at g.cells.records.now) (4 * g.cells.count) in
     let a = skin_listed g.cells.records.now g.cells.count g.room (law g) in
-    told (SkinCause rs n) (OnSkin rs) (open_at g.cells.records.now) (4 * g.cells.count) a c.args.out.now c.list-skin.new.out c.list-skin.result c.list-skin.auto.out
-    (skin_first_short rs n ks a) (no_skin_cause rs n ks a) c.list-skin.ensures
+    told (SkinCause rs n) (OnSkin rs) (open_at g.cells.records.now) (4 * g.cells.count) a c.args.out.now c.list_skin.new.out c.list_skin.result c.list_skin.auto.out
+    (skin_first_short rs n ks a) (no_skin_cause rs n ks a) c.list_skin.ensures

@@ -1,4 +1,4 @@
-use Rattle.std.proofs.Common.{◌≡◌, ℕ, ◌*◌, ◌<◌, ◌≤◌, List, length, sym, refl, ap, ◌∙◌, subst, arith}
+use Rattle.std.proofs.Common.{length, refl}
 use Rattle.rules.specs.Questions.{AtVertex, StarCause}
 use Rattle.rules.specs.Tests.{picks}
 use Rattle.rules.proofs.Causes.{star_first_high, star-first-short, no-star-cause}
@@ -19,5 +19,5 @@ returns c =
     let n = length c.args.out.now in
     let ks = picks (has_both g.cells.records.now v v) g.cells.count in
     let a = star_listed g.cells.records.now g.cells.count g.room v in
-    told (StarCause rs v n) (AtVertex rs v) (has_both g.cells.records.now v v) g.cells.count a c.args.out.now c.list-star.new.out c.list-star.result c.list-star.auto.out
-    (star-first-short rs v n ks c.if-v-gt4095.false a) (no-star-cause rs v n ks c.if-v-gt4095.false a) c.list-star.ensures
+    told (StarCause rs v n) (AtVertex rs v) (has_both g.cells.records.now v v) g.cells.count a c.args.out.now c.list_star.new.out c.list_star.result c.list_star.auto.out
+    (star-first-short rs v n ks c.if-v-gt4095.false a) (no-star-cause rs v n ks c.if-v-gt4095.false a) c.list_star.ensures

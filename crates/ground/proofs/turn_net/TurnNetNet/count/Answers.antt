@@ -1,4 +1,4 @@
-use Rattle.std.proofs.Common.{◌≡◌, ℕ, sym, arith}
+use Rattle.std.proofs.Common.{sym, arith}
 use Rattle.carry.specs.Turns.{turn_kind}
 use Rattle.rules.specs.NetTests.{turning}
 use Rattle.rules.proofs.Webbed.{web_sound, steps_bit}

@@ -1,10 +1,10 @@
-use Rattle.std.proofs.Common.{◌≡◌, ℕ, ◌+◌, ◌*◌, ◌/◌, ◌%◌, ◌<◌, Some, None, sym, ap, ◌∙◌, arith}
+use Rattle.std.proofs.Common.{Some, None, ◌∙◌, arith}
 use Rattle.rules.specs.NetTests.{turning}
 use Rattle.ground.proofs.Viewed.{across, view_step, rows_of}
 use Rattle.ground.proofs.turn_net.TurnNetNet.step.Goals as goal
 
-pub turn-between-requires : goal.turn-between-requires
-turn-between-requires c =
+pub turn_between-requires : goal.turn_between-requires
+turn_between-requires c =
     let a = across c.args.self.now.cells c.args.item c.args.side c.in-Some.g c.in-Some.ensures in
     let i = a.item in
     let s = a.side in
@@ -13,21 +13,21 @@ turn-between-requires c =
 pub returns-in-Some : goal.returns-in-Some
 returns-in-Some c =
     let t = c.args.self.now.cells in
-    c.turn-between.ensures ∙ view_step t 0 (turning (rows_of t)) c.args.item c.args.side (Some c.in-Some.g) c.in-Some.ensures
+    c.turn_between.ensures ∙ view_step t 0 (turning (rows_of t)) c.args.item c.args.side (Some c.in-Some.g) c.in-Some.ensures
 
 pub returns-in-None : goal.returns-in-None
 returns-in-None c = let t = c.args.self.now.cells in view_step t 0 (turning (rows_of t)) c.args.item c.args.side None c.in-None.ensures
 
-pub overflow-mul-item : goal.overflow-mul-item
-overflow-mul-item c =
+pub overflow_mul-item : goal.overflow_mul-item
+overflow_mul-item c =
     let t = c.args.self.now.cells in
     let a = across t c.args.item c.args.side c.in-Some.g c.in-Some.ensures in
     let i = a.item in
     let f = t.few in
     omega arith
 
-pub overflow-add-item : goal.overflow-add-item
-overflow-add-item c =
+pub overflow_add-item : goal.overflow_add-item
+overflow_add-item c =
     let t = c.args.self.now.cells in
     let a = across t c.args.item c.args.side c.in-Some.g c.in-Some.ensures in
     let i = a.item in
