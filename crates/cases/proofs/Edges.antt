@@ -12,7 +12,7 @@ use Rattle.rules.proofs.Corners.{in_to, in_from}
 use Rattle.rules.proofs.Listed.{listed_as}
 use Rattle.rules.proofs.Opposites.{opposite_joined, joined_sym}
 use Rattle.rules.proofs.Starred.{holds_so, holds_to, holds_at}
-use Rattle.cases.proofs.Finite.{every, every_at, some, some_at, implies, implied, has, has_at, lists_number, same_list, same_list}
+use Rattle.cases.proofs.Finite.{every, every_at, some, some_at, implies, implied, has, has_at, lists_number, same_list, same_list_lem}
 use Rattle.cases.proofs.Halves.{joined_meets}
 
 -- cell t has v and w
@@ -37,7 +37,7 @@ lists_edge rs v w ks = same_list (picks (at_edge rs v w) (length rs)) ks
 pub lists_edge_lem : (rs : List (List ℕ)) (v w : ℕ) (ks : List ℕ) → lists_edge rs v w ks ≡ true → Listing (AtEdge rs v w) ks
 unfolding lists_edge
 lists_edge_lem rs v w ks e =
-    subst (Listing (AtEdge rs v w)) (same_list (picks (at_edge rs v w) (length rs)) ks e)
+    subst (Listing (AtEdge rs v w)) (same_list_lem (picks (at_edge rs v w) (length rs)) ks e)
     (listed_as (at_edge rs v w) (length rs) (AtEdge rs v w) (λ t l. at_so rs v w t) (λ t a. (a.0, at_to rs v w t a)))
 
 -- AN EDGE THAT IS NOT SOUND

@@ -64,10 +64,10 @@ same_list [] (y ∷ ys) = false
 same_list (x ∷ xs) [] = false
 same_list (x ∷ xs) (y ∷ ys) = eqb x y && same_list xs ys
 
-pub same_list : (xs ys : List ℕ) → same_list xs ys ≡ true → xs ≡ ys
-same_list [] [] e = refl
-same_list [] (y ∷ ys) e = absurd (false≢true e)
-same_list (x ∷ xs) [] e = absurd (false≢true e)
-same_list (x ∷ xs) (y ∷ ys) e =
+pub same_list_lem : (xs ys : List ℕ) → same_list xs ys ≡ true → xs ≡ ys
+same_list_lem [] [] e = refl
+same_list_lem [] (y ∷ ys) e = absurd (false≢true e)
+same_list_lem (x ∷ xs) [] e = absurd (false≢true e)
+same_list_lem (x ∷ xs) (y ∷ ys) e =
     let a = and_parts (eqb x y) (same_list xs ys) e in
-    ap (λ (z : ℕ). z ∷ xs) (eqb-true x y a.0) ∙ ap (λ (zs : List ℕ). y ∷ zs) (same_list xs ys a.1)
+    ap (λ (z : ℕ). z ∷ xs) (eqb-true x y a.0) ∙ ap (λ (zs : List ℕ). y ∷ zs) (same_list_lem xs ys a.1)
