@@ -25,8 +25,8 @@ pub(crate) fn rising_pair(a: u16, b: u16) -> Pair
 
 // Three vertices that differ, in rising order.
 pub(crate) fn rising_triple(a: u16, b: u16, c: u16) -> Triple
-    requires { ((a ≢ b)) × (((b ≢ c)) × ((a ≢ c))) }
-    ensures { Sorts (record { p = a; q = b; result = c }) result }
+    requires { (a ≢ b) × (b ≢ c) × (a ≢ c) }
+    ensures { Sorts (record { p = a; q = b; r = c }) result }
 {
     let Pair { first, second } = rising_pair(a, b);
     if c < first {

@@ -13,15 +13,15 @@ use Rattle.indexes.proofs.Lookups.{no_longer}
 use Rattle.indexes.proofs.Outcomes.{makes}
 use Rattle.indexes.proofs.edges.edge_index.Goals as goal
 
-pub gather-edges-requires : goal.gather-edges-requires
-gather-edges-requires c =
+pub gather_edges-requires : goal.gather_edges-requires
+gather_edges-requires c =
     let e = c.over-gathered.ensures in
     let many : length (held c.over-gathered.result.index).free ≡ 12288 = ap (λ (h : Held Pair). length h.free) e ∙ length-replicate {A = Entry Pair} 12288 (record { key = record { first = 0; second = 0 }; half_face = 0 }) in
     (ap (λ (h : Held Pair). h.entries) e, omega arith)
 
-pub hand-over-requires : goal.hand-over-requires
-hand-over-requires c = record {
-  rising = subst (Rising pair_order) (sym c.entries.ensures) c.gather-edges.new.index.rising;
+pub hand_over-requires : goal.hand_over-requires
+hand_over-requires c = record {
+  rising = subst (Rising pair_order) (sym c.entries.ensures) c.gather_edges.new.index.rising;
   none = ap (λ (h : Held Pair). h.entries) c.over-index.ensures;
   room = sym (ap (λ (h : Held Pair). length h.free) c.over-index.ensures);
 }
@@ -29,6 +29,6 @@ hand-over-requires c = record {
 pub returns : goal.returns
 returns c =
     let rs = (plain_sealed c.args.ground.now).list in
-    makes (EdgeEntries rs) (no_longer pair_total) c.entries.result.now c.args.places.now c.hand-over.result (held c.hand-over.new.index.index)
-    (subst (EdgeEntries rs) (sym c.entries.ensures) c.gather-edges.ensures)
-    (subst (λ (h : Held Pair). HandedOver c.entries.result.now h c.hand-over.result (held c.hand-over.new.index.index)) c.over-index.ensures c.hand-over.ensures)
+    makes (EdgeEntries rs) (no_longer pair_total) c.entries.result.now c.args.places.now c.hand_over.result (held c.hand_over.new.index.index)
+    (subst (EdgeEntries rs) (sym c.entries.ensures) c.gather_edges.ensures)
+    (subst (λ (h : Held Pair). HandedOver c.entries.result.now h c.hand_over.result (held c.hand_over.new.index.index)) c.over-index.ensures c.hand_over.ensures)

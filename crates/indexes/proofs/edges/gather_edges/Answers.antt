@@ -9,21 +9,21 @@ use Rattle.indexes.proofs.Offers.{gathered_none, gathered-as}
 use Rattle.indexes.proofs.HalfFaces.{few_cells}
 use Rattle.indexes.proofs.edges.gather_edges.Goals as goal
 
-pub overflow-mul-half-faces : goal.overflow-mul-half-faces
-overflow-mul-half-faces c = omega (arith, few_cells c.args.ground.now, c.counts-half-faces.ensures.counted.cells)
+pub overflow_mul-half_faces : goal.overflow_mul-half_faces
+overflow_mul-half_faces c = omega (arith, few_cells c.args.ground.now, c.counts-half_faces.ensures.counted.cells)
 
-pub put-edges-requires : goal.put-edges-requires
-put-edges-requires c =
-    let cells = c.counts-half-faces.ensures.counted.cells in
+pub put_edges-requires : goal.put_edges-requires
+put_edges-requires c =
+    let cells = c.counts-half_faces.ensures.counted.cells in
     record {
-      lawful = c.counts-half-faces.ensures.lawful;
+      lawful = c.counts-half_faces.ensures.lawful;
       half = omega arith;
       room = omega (arith, few_cells c.args.ground.now, c.loop-h.invariant.1);
       gathered = c.loop-h.invariant.0;
     }
 
 pub loop-h-preserved : goal.loop-h-preserved
-loop-h-preserved c = (c.put-edges.ensures.gathered, omega (arith, c.put-edges.ensures.room, c.loop-h.invariant.1))
+loop-h-preserved c = (c.put_edges.ensures.gathered, omega (arith, c.put_edges.ensures.room, c.loop-h.invariant.1))
 
 pub loop-h-init : goal.loop-h-init
 loop-h-init c =
@@ -35,7 +35,7 @@ loop-h-init c =
 pub returns : goal.returns
 returns c =
     let rs = (plain_sealed c.args.ground.now).list in
-    let cells = c.counts-half-faces.ensures.counted.cells in
+    let cells = c.counts-half_faces.ensures.counted.cells in
     one_each pair_total (held c.loop-h.index.index).entries c.loop-h.index.rising
     (gathered-as pair_total (Before (OnEdge rs) c.loop-h.h) (OnEdge rs) (RatherHalf rs) (λ k g p. p.0) (λ k g p. let l = p.0 in (p, omega arith))
     (held c.loop-h.index.index).entries c.loop-h.invariant.0)

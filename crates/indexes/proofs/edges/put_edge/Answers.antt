@@ -18,17 +18,17 @@ returns c =
     let rs = (plain_sealed c.args.ground.now).list in
     let before = held c.args.index.now.index in
     let after = held c.put.new.self.index in
-    let s : Stored pair_order (record { key = c.args.key; half_face = c.match-find.half-face }) before after = stored pair_total _ before after c.put.result c.requires.room c.put.ensures in
-    let found : Chosen (RatherHalf rs) c.find.result c.args.h c.match-find.half-face =
+    let s : Stored pair_order (record { key = c.args.key; half_face = c.match-find.half_face }) before after = stored pair_total _ before after c.put.result c.requires.room c.put.ensures in
+    let found : Chosen (RatherHalf rs) c.find.result c.args.h c.match-find.half_face =
     elim c.match-find.branch [
-      | in-None w ↦ subst (λ (o : Option ℕ). Chosen (RatherHalf rs) o c.args.h c.match-find.half-face) (sym w.in-None.is) w.half-face-is
-      | in-Some w ↦ subst (λ (o : Option ℕ). Chosen (RatherHalf rs) o c.args.h c.match-find.half-face) (sym w.in-Some.is)
-          (subst (Chosen (RatherHalf rs) (Some w.in-Some.held) c.args.h) (sym w.half-face-is)
+      | in-None w ↦ subst (λ (o : Option ℕ). Chosen (RatherHalf rs) o c.args.h c.match-find.half_face) (sym w.in-None.is) w.half_face-is
+      | in-Some w ↦ subst (λ (o : Option ℕ). Chosen (RatherHalf rs) o c.args.h c.match-find.half_face) (sym w.in-Some.is)
+          (subst (Chosen (RatherHalf rs) (Some w.in-Some.held) c.args.h) (sym w.half_face-is)
           (chosen_side rs w.in-Some.held c.args.h w.side.result w.side-in-Some.result w.stands.result
           w.side.ensures.same w.side.ensures.skin w.side-in-Some.ensures.same w.side-in-Some.ensures.skin w.stands.ensures))
     ] in
     record {
-      offered = put_offered pair_total c.args.key c.args.h c.match-find.half-face before after s
-          (subst (λ (o : Option ℕ). Chosen (RatherHalf rs) o c.args.h c.match-find.half-face) c.find.ensures found);
+      offered = put_offered pair_total c.args.key c.args.h c.match-find.half_face before after s
+          (subst (λ (o : Option ℕ). Chosen (RatherHalf rs) o c.args.h c.match-find.half_face) c.find.ensures found);
       room = room_left pair_total _ before after s;
     }

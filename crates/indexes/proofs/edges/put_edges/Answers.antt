@@ -8,13 +8,13 @@ use Rattle.indexes.proofs.edges.put_edges.Goals as goal
 pub returns : goal.returns
 returns c =
     let rs = (plain_sealed c.args.ground.now).list in
-    let three = three_edges_as (reads rs c.args.h) c.vertices.result c.rising-pair.result c.rising-pair-2.result c.rising-pair-3.result c.vertices.ensures
-    (record { low = c.rising-pair.ensures.rising; both = c.rising-pair.ensures.both })
-    (record { low = c.rising-pair-2.ensures.rising; both = c.rising-pair-2.ensures.both })
-    (record { low = c.rising-pair-3.ensures.rising; both = c.rising-pair-3.ensures.both }) in
+    let three = three_edges_as (reads rs c.args.h) c.vertices.result c.rising_pair.result c.rising_pair-2.result c.rising_pair-3.result c.vertices.ensures
+    (record { low = c.rising_pair.ensures.rising; both = c.rising_pair.ensures.both })
+    (record { low = c.rising_pair-2.ensures.rising; both = c.rising_pair-2.ensures.both })
+    (record { low = c.rising_pair-3.ensures.rising; both = c.rising_pair-3.ensures.both }) in
     record {
-      gathered = passed rs c.args.h c.requires.half c.rising-pair.result c.rising-pair-2.result c.rising-pair-3.result three
-          (held c.args.index.now.index).entries (held c.put-edge.new.index.index).entries (held c.put-edge-2.new.index.index).entries (held c.put-edge-3.new.index.index).entries
-          c.requires.gathered c.put-edge.ensures.offered c.put-edge-2.ensures.offered c.put-edge-3.ensures.offered;
-      room = omega (arith, c.put-edge.ensures.room, c.put-edge-2.ensures.room, c.put-edge-3.ensures.room);
+      gathered = passed rs c.args.h c.requires.half c.rising_pair.result c.rising_pair-2.result c.rising_pair-3.result three
+          (held c.args.index.now.index).entries (held c.put_edge.new.index.index).entries (held c.put_edge-2.new.index.index).entries (held c.put_edge-3.new.index.index).entries
+          c.requires.gathered c.put_edge.ensures.offered c.put_edge-2.ensures.offered c.put_edge-3.ensures.offered;
+      room = omega (arith, c.put_edge.ensures.room, c.put_edge-2.ensures.room, c.put_edge-3.ensures.room);
     }

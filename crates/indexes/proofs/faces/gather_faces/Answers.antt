@@ -9,14 +9,14 @@ use Rattle.indexes.proofs.Offers.{gathered_none, gathered-as}
 use Rattle.indexes.proofs.HalfFaces.{few_cells}
 use Rattle.indexes.proofs.faces.gather_faces.Goals as goal
 
-pub overflow-mul-half-faces : goal.overflow-mul-half-faces
-overflow-mul-half-faces c = omega (arith, few_cells c.args.ground.now, c.counts-half-faces.ensures.counted.cells)
+pub overflow_mul-half_faces : goal.overflow_mul-half_faces
+overflow_mul-half_faces c = omega (arith, few_cells c.args.ground.now, c.counts-half_faces.ensures.counted.cells)
 
-pub put-face-requires : goal.put-face-requires
-put-face-requires c =
-    let cells = c.counts-half-faces.ensures.counted.cells in
+pub put_face-requires : goal.put_face-requires
+put_face-requires c =
+    let cells = c.counts-half_faces.ensures.counted.cells in
     record {
-      lawful = c.counts-half-faces.ensures.lawful;
+      lawful = c.counts-half_faces.ensures.lawful;
       half = omega arith;
       room = omega (arith, few_cells c.args.ground.now, c.loop-h.invariant.1);
       gathered = c.loop-h.invariant.0;
@@ -24,9 +24,9 @@ put-face-requires c =
 
 pub loop-h-preserved : goal.loop-h-preserved
 loop-h-preserved c = (
-  c.put-face.ensures.gathered,
-  omega (arith, c.put-face.ensures.room, c.loop-h.invariant.1),
-  below_more _ _ c.loop-h.invariant.2 c.put-face.ensures.on,
+  c.put_face.ensures.gathered,
+  omega (arith, c.put_face.ensures.room, c.loop-h.invariant.1),
+  below_more _ _ c.loop-h.invariant.2 c.put_face.ensures.on,
 )
 
 pub loop-h-init : goal.loop-h-init
@@ -39,7 +39,7 @@ loop-h-init c = (
 pub returns : goal.returns
 returns c =
     let rs = (plain_sealed c.args.ground.now).list in
-    let cells = c.counts-half-faces.ensures.counted.cells in
+    let cells = c.counts-half_faces.ensures.counted.cells in
     record {
       each = λ h l. c.loop-h.invariant.2 h (omega arith);
       entries = one_each triple_total (held c.loop-h.index.index).entries c.loop-h.index.rising

@@ -9,5 +9,5 @@ unreachable-requires c = told (plain_sealed c.args.ground.now).list c.args.h _ c
 pub returns : goal.returns
 returns c = record {
   same = refl;
-  skin = skin_told (plain_sealed c.args.ground.now).list c.args.h c.in-Ok.opposite c.is-none.result c.in-Ok.ensures.tells.1 c.is-none.ensures;
+  skin = skin_told (plain_sealed c.args.ground.now).list c.args.h c.in-Ok.opposite c.is_none.result c.in-Ok.ensures.tells.1 c.is_none.ensures;
 }
