@@ -14,7 +14,7 @@ linked-requires c =
     record {
       count = (k.counted.cells, k.few);
       lawful = k.lawful;
-      size = filled_many (AtEdge rs c.args.v c.args.w) c.in-Ok.size (replicate 1024 0) c.edge-star.new.out c.in-Ok.ensures.1;
+      size = filled_many (AtEdge rs c.args.v c.args.w) c.in-Ok.size (replicate 1024 0) c.edge_star.new.out c.in-Ok.ensures.1;
     }
 
 pub returns-then-size-eq0 : goal.returns-then-size-eq0
@@ -24,7 +24,7 @@ returns-then-size-eq0 c =
     let h = c.in-Ok.ensures in
     let room : length rs ≤ length (replicate {A = ℕ} 1024 0) = omega (arith, length-replicate {A = ℕ} 1024 0, c.counts-count.ensures.counted.cells, c.counts-count.ensures.few) in
     edge_nowhere rs v w (length (replicate {A = ℕ} 1024 0)) room h.0
-    (subst (Many (AtEdge rs v w)) c.if-size-eq0.true (filled_many (AtEdge rs v w) c.in-Ok.size (replicate 1024 0) c.edge-star.new.out h.1))
+    (subst (Many (AtEdge rs v w)) c.if-size-eq0.true (filled_many (AtEdge rs v w) c.in-Ok.size (replicate 1024 0) c.edge_star.new.out h.1))
 
 pub returns-else-size-eq0 : goal.returns-else-size-eq0
 returns-else-size-eq0 c =
@@ -32,7 +32,7 @@ returns-else-size-eq0 c =
     let v = c.args.v in let w = c.args.w in
     let h = c.in-Ok.ensures in
     let room : length rs ≤ length (replicate {A = ℕ} 1024 0) = omega (arith, length-replicate {A = ℕ} 1024 0, c.counts-count.ensures.counted.cells, c.counts-count.ensures.few) in (
-      edge_no_cause rs v w (length (replicate {A = ℕ} 1024 0)) room c.in-Ok.size h.0 (filled_many (AtEdge rs v w) c.in-Ok.size (replicate 1024 0) c.edge-star.new.out h.1) c.if-size-eq0.false,
+      edge_no_cause rs v w (length (replicate {A = ℕ} 1024 0)) room c.in-Ok.size h.0 (filled_many (AtEdge rs v w) c.in-Ok.size (replicate 1024 0) c.edge_star.new.out h.1) c.if-size-eq0.false,
       c.linked.ensures,
     )
 

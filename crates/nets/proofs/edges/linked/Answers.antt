@@ -8,8 +8,8 @@ use Rattle.rules.proofs.Sounding.{star_fits}
 use Rattle.ground.specs.Grounds.{plain_sealed}
 use Rattle.nets.proofs.edges.linked.Goals as goal
 
-pub overflow-add-result : goal.overflow-add-result
-overflow-add-result c =
+pub overflow_add-result : goal.overflow_add-result
+overflow_add-result c =
     let rs = (plain_sealed c.args.ground.now).list in
     let z = c.requires.count.0 in
     let f = c.requires.count.1 in

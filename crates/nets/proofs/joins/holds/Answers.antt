@@ -7,7 +7,7 @@ pub returns-then-first : goal.returns-then-first
 unfolding holds
 returns-then-first c =
     let rs = (plain_sealed c.args.ground.now).list in
-    c.is-among.ensures
+    c.is_among.ensures
     ∙ ap (λ (b : Bool). b && among c.reading-triangle.result c.args.w) c.if-first.ensures
     ∙ ap (λ (x : List ℕ). among x c.args.v && among x c.args.w) c.reading-triangle.ensures
 

@@ -14,11 +14,11 @@ loop-i-preserved c =
     let i = c.loop-i.i in
     let P : ℕ → Type 0 = λ u. Edge rs v u → EdgeSound rs v u in
     let z : get_or c.corners-row.result i 0 ≡ corner x i = ap (λ (y : List ℕ). get_or y i 0) c.corners-row.ensures ∙ vertices_corner x i c.loop-i-test.true in
-    let here : P (corner x i) = subst P z (c.no-unsound-edge.ensures.0 c.if-not-no-unsound-edge.false) in
+    let here : P (corner x i) = subst P z (c.no_unsound_edge.ensures.0 c.if-not-no_unsound_edge.false) in
     λ k l. ⊎_elim (λ q. subst (λ (u : ℕ). P (corner x u)) (sym q) here) (λ q. c.loop-i.invariant k (omega arith)) (cases_eq k i)
 
-pub returns-then-not-no-unsound-edge : goal.returns-then-not-no-unsound-edge
-returns-then-not-no-unsound-edge c =
+pub returns-then-not-no_unsound_edge : goal.returns-then-not-no_unsound_edge
+returns-then-not-no_unsound_edge c =
     let rs = (plain_sealed c.args.ground.now).list in
     let v = c.args.v in
     let x = get_or rs c.args.t [] in
@@ -26,7 +26,7 @@ returns-then-not-no-unsound-edge c =
     let P : ℕ → Type 0 = λ u. Edge rs v u → EdgeSound rs v u in
     let z : get_or c.corners-row.result i 0 ≡ corner x i = ap (λ (y : List ℕ). get_or y i 0) c.corners-row.ensures ∙ vertices_corner x i c.loop-i-test.true in (
       (λ q. absurd (false≢true q)),
-      (λ f. absurd (both_ways c.no-unsound-edge.result c.if-not-no-unsound-edge.true (c.no-unsound-edge.ensures.1 (subst P (sym z) (f i c.loop-i-test.true))))),
+      (λ f. absurd (both_ways c.no_unsound_edge.result c.if-not-no_unsound_edge.true (c.no_unsound_edge.ensures.1 (subst P (sym z) (f i c.loop-i-test.true))))),
     )
 
 pub returns : goal.returns

@@ -6,8 +6,8 @@ use Rattle.rules.proofs.Sounding.{by_cells}
 use Rattle.ground.specs.Grounds.{plain_sealed}
 use Rattle.nets.proofs.vertices.edges_sound.Goals as goal
 
-pub cell-edges-sound-requires : goal.cell-edges-sound-requires
-cell-edges-sound-requires c = record { inside = ((c.requires.cells.sound c.loop-t.t-index c.loop-t-test.true).0, c.requires.few); lawful = c.requires.lawful }
+pub cell_edges_sound-requires : goal.cell_edges_sound-requires
+cell_edges_sound-requires c = record { inside = ((c.requires.cells.sound c.loop-t.t-index c.loop-t-test.true).0, c.requires.few); lawful = c.requires.lawful }
 
 pub loop-t-preserved : goal.loop-t-preserved
 loop-t-preserved c =
@@ -16,12 +16,12 @@ loop-t-preserved c =
     let ks = c.args.cells.now in
     let n = c.loop-t.t-index in
     let P : ℕ → ℕ → Type 0 = λ i j. Edge rs v (corner (get_or rs (get_or ks i 0) []) j) → EdgeSound rs v (corner (get_or rs (get_or ks i 0) []) j) in
-    λ i j l k. ⊎_elim (λ q. subst (λ (u : ℕ). P u j) (sym q) (c.cell-edges-sound.ensures.0 c.if-not-cell-edges-sound.false j k)) (λ q. c.loop-t.invariant i j (omega arith) k) (cases_eq i n)
+    λ i j l k. ⊎_elim (λ q. subst (λ (u : ℕ). P u j) (sym q) (c.cell_edges_sound.ensures.0 c.if-not-cell_edges_sound.false j k)) (λ q. c.loop-t.invariant i j (omega arith) k) (cases_eq i n)
 
-pub returns-then-not-cell-edges-sound : goal.returns-then-not-cell-edges-sound
-returns-then-not-cell-edges-sound c = (
+pub returns-then-not-cell_edges_sound : goal.returns-then-not-cell_edges_sound
+returns-then-not-cell_edges_sound c = (
   (λ q. absurd (false≢true q)),
-  (λ f. absurd (both_ways c.cell-edges-sound.result c.if-not-cell-edges-sound.true (c.cell-edges-sound.ensures.1 (λ i l e. f _ e)))),
+  (λ f. absurd (both_ways c.cell_edges_sound.result c.if-not-cell_edges_sound.true (c.cell_edges_sound.ensures.1 (λ i l e. f _ e)))),
 )
 
 pub returns : goal.returns

@@ -19,8 +19,8 @@ linked-hang-requires c =
       size = many_twice rs v c.in-Ok.size (filled_many (AtVertex rs v) c.in-Ok.size (replicate 1024 0) c.star.new.out c.in-Ok.ensures.1);
     }
 
-pub edges-sound-requires : goal.edges-sound-requires
-edges-sound-requires c =
+pub edges_sound-requires : goal.edges_sound-requires
+edges_sound-requires c =
     let rs = (plain_sealed c.args.ground.now).list in
     let k = c.counts.ensures in
     let e : c.in-Ok.size - 0 ≡ c.in-Ok.size = omega arith in
@@ -46,7 +46,7 @@ returns-then-hang c =
     let h = c.in-Ok.ensures in
     let room : length rs ≤ length (replicate {A = ℕ} 1024 0) = omega (arith, length-replicate {A = ℕ} 1024 0, c.counts.ensures.counted.cells, c.counts.ensures.few) in (
       vertex_no_cause rs v (length (replicate {A = ℕ} 1024 0)) room c.in-Ok.size h.0 (filled_many (AtVertex rs v) c.in-Ok.size (replicate 1024 0) c.star.new.out h.1) c.if-size-eq0.false,
-      ((λ q. record { edges = c.edges-sound.ensures.0 q; cells = c.linked-hang.ensures.0 c.if-hang.true }), (λ s. c.edges-sound.ensures.1 s.edges)),
+      ((λ q. record { edges = c.edges_sound.ensures.0 q; cells = c.linked-hang.ensures.0 c.if-hang.true }), (λ s. c.edges_sound.ensures.1 s.edges)),
     )
 
 pub returns-else-hang : goal.returns-else-hang

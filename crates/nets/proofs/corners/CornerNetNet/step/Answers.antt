@@ -14,8 +14,8 @@ corners-there-requires c =
     let l = (partner_joined rs c.args.item c.args.side c.in-Some.g (sym c.in-Some.ensures.joined)).2.there in
     (omega arith, c.in-Some.ensures.few)
 
-pub corners-between-requires : goal.corners-between-requires
-corners-between-requires c =
+pub corners_between-requires : goal.corners_between-requires
+corners_between-requires c =
     let rs = (plain_sealed c.args.self.now.ground.now).list in
     let e = sym c.in-Some.ensures.joined in
     record {
@@ -26,7 +26,7 @@ corners-between-requires c =
 pub returns-in-Some : goal.returns-in-Some
 returns-in-Some c =
     let rs = (plain_sealed c.args.self.now.ground.now).list in
-    c.corners-between.ensures
+    c.corners_between.ensures
     ∙ across_step rs c.args.item c.args.side c.in-Some.g (sym c.in-Some.ensures.joined) c.corners-here.result c.corners-there.result c.corners-here.ensures c.corners-there.ensures
 
 pub returns-in-None : goal.returns-in-None

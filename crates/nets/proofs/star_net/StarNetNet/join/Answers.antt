@@ -4,13 +4,13 @@ use Rattle.rules.proofs.Starred.{star_to, star_not, star_open}
 use Rattle.ground.specs.Grounds.{plain_sealed}
 use Rattle.nets.proofs.star_net.StarNetNet.join.Goals as goal
 
-pub overflow-mul-item : goal.overflow-mul-item
-overflow-mul-item c =
+pub overflow_mul-item : goal.overflow_mul-item
+overflow_mul-item c =
     let r = joined_from (plain_sealed c.args.self.now.ground.now).list c.args.item c.args.side c.in-Some.p (sym c.in-Some.ensures.joined) in
     let l = r.0 in let f = c.in-Some.ensures.few in omega arith
 
-pub overflow-add-item : goal.overflow-add-item
-overflow-add-item c =
+pub overflow_add-item : goal.overflow_add-item
+overflow_add-item c =
     let r = joined_from (plain_sealed c.args.self.now.ground.now).list c.args.item c.args.side c.in-Some.p (sym c.in-Some.ensures.joined) in
     let l = r.0 in let k = r.1 in let f = c.in-Some.ensures.few in omega arith
 
