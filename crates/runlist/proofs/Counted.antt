@@ -1,5 +1,5 @@
 -- No more rows are turned than there are.
-use Rattle.std.proofs.Common.{◌≡◌, ℕ, ◌<◌, ◌≤◌, length, take, arith}
+use Rattle.std.proofs.Common.{ℕ, ◌≤◌, length, take, arith}
 use lib.ListN.{length-map}
 use Rattle.std.proofs.lemmas.List.{length-take-le}
 use Rattle.carry.specs.Counting.{Counts}

@@ -1,4 +1,4 @@
-use Rattle.std.proofs.Common.{◌≡◌, ℕ, ◌-◌, List, [], ◌∷◌, take, Ok, Err, codes, sym, refl, subst, arith}
+use Rattle.std.proofs.Common.{◌≡◌, ℕ, ◌-◌, [], ◌∷◌, take, Ok, Err, codes, sym, refl, subst, arith}
 use Rattle.std.proofs.lemmas.List.{length-replicate}
 use Rattle.refusal.specs.Numbers.{number_of}
 use Rattle.refusal.specs.Causes.{First, NoCause}
@@ -13,18 +13,18 @@ returns-in-Ok c =
     let rs = (plain_sealed c.args.ground.now).list in
     let h = c.in-Ok.ensures in
     let e : c.in-Ok.n - 0 ≡ c.in-Ok.n = omega arith in
-    let ks = take (c.in-Ok.n - 0) c.edge-star.new.out in (
+    let ks = take (c.in-Ok.n - 0) c.edge_star.new.out in (
       said (codes "ok") ks,
       (
         Ok ks,
         (
           subst (λ (m : ℕ). NoCause (EdgeStarCause rs c.args.v c.args.w m)) (length-replicate {A = ℕ} 1024 0) h.0,
-          subst (λ (m : ℕ). Listing (AtEdge rs c.args.v c.args.w) (take m c.edge-star.new.out)) (sym e) h.1.first,
+          subst (λ (m : ℕ). Listing (AtEdge rs c.args.v c.args.w) (take m c.edge_star.new.out)) (sym e) h.1.first,
         ),
         refl,
         refl,
       ),
-      c.say-ok.ensures,
+      c.say_ok.ensures,
     )
 
 pub returns-in-Err : goal.returns-in-Err
@@ -38,5 +38,5 @@ returns-in-Err c =
         refl,
         refl,
       ),
-      c.say-no.ensures,
+      c.say_no.ensures,
     )

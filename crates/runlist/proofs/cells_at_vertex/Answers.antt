@@ -1,4 +1,4 @@
-use Rattle.std.proofs.Common.{◌≡◌, ℕ, ◌-◌, List, [], ◌∷◌, take, Ok, Err, codes, sym, refl, subst, arith}
+use Rattle.std.proofs.Common.{◌≡◌, ℕ, ◌-◌, [], ◌∷◌, take, Ok, Err, codes, sym, refl, subst, arith}
 use Rattle.std.proofs.lemmas.List.{length-replicate}
 use Rattle.refusal.specs.Numbers.{number_of}
 use Rattle.refusal.specs.Causes.{First, NoCause}
@@ -24,7 +24,7 @@ returns-in-Ok c =
         refl,
         refl,
       ),
-      c.say-ok.ensures,
+      c.say_ok.ensures,
     )
 
 pub returns-in-Err : goal.returns-in-Err
@@ -38,5 +38,5 @@ returns-in-Err c =
         refl,
         refl,
       ),
-      c.say-no.ensures,
+      c.say_no.ensures,
     )

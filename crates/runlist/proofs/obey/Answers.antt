@@ -1,4 +1,4 @@
-use Rattle.std.proofs.Common.{◌≡◌, ℕ, ◌<◌, List, [], length, sym, refl, subst, arith}
+use Rattle.std.proofs.Common.{ℕ, List, [], sym, refl, subst, arith}
 use Rattle.refusal.specs.declared.Refusal.{Refusal}
 use Rattle.ground.specs.Grounds.{plain}
 use Rattle.worklist.specs.declared.order.Order.{Order}
