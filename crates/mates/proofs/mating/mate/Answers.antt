@@ -32,9 +32,9 @@ returns-in-None c =
     let rs = (plain_sealed c.args.ground.now).list in
     let law = c.counts-cells.ensures.lawful in
     let o = c.in-None.ensures in
-    let m = c.mate-at.result in
+    let m = c.mate_at.result in
     record {
-      tells = (no_mate_cause rs c.args.h c.args.place c.if-place-gt2.false o, c.mate-at.ensures);
-      back = leads_back rs law c.args.h c.args.place m.half_face m.place o c.mate-at.ensures;
+      tells = (no_mate_cause rs c.args.h c.args.place c.if-place-gt2.false o, c.mate_at.ensures);
+      back = leads_back rs law c.args.h c.args.place m.half_face m.place o c.mate_at.ensures;
       opposed = mates_opposed rs law;
     }

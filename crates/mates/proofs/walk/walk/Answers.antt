@@ -21,4 +21,4 @@ loop-o-preserved c =
     c.loop-o.g c.in-Some.o c.beside-g-in-Some.result c.loop-o.invariant c.in-Some.ensures c.beside-g-in-Some.ensures
 
 pub returns : goal.returns
-returns c = turning_open (plain_sealed c.args.ground.now).list c.args.u c.args.v c.args.h c.loop-o.g c.loop-o.invariant c.in-default.ensures
+returns c = turning_open (plain_sealed c.args.ground.now).list c.args.u c.args.v c.args.h c.loop-o.g c.loop-o.invariant c.in_default.ensures
