@@ -7,7 +7,7 @@ ghost use Rattle.nets.specs.CornerNets.{corner_net_web};
 
 use crate::corner_step::corners_between;
 use crate::joins::{corners, partner, place};
-use carry::{Corner, Label, Label as _, Net, Place};
+use carry::{Corner, Label, Net, Place};
 use ground::Sealed;
 
 /// The net over which a ground's corner labels are carried.

@@ -1,4 +1,4 @@
-use Rattle.std.proofs.Common.{◌≡◌, sym, arith}
+use Rattle.std.proofs.Common.{sym, arith}
 use Rattle.rules.proofs.CornerNets.{corner_0, corner_1, corner_2, corner_3}
 use Rattle.nets.proofs.corner_step.corner_at.Goals as goal
 

@@ -1,4 +1,4 @@
-use Rattle.std.proofs.Common.{◌≡◌, sym, ◌∙◌, arith}
+use Rattle.std.proofs.Common.{sym, ◌∙◌, arith}
 use Rattle.rules.proofs.CornerNets.{sent_entered, sent_other}
 use Rattle.nets.proofs.corner_step.sent_to.Goals as goal
 

@@ -1,4 +1,4 @@
-use Rattle.std.proofs.Common.{◌≡◌, refl}
+use Rattle.std.proofs.Common.{refl}
 use Rattle.rules.proofs.CornerNets.{corner-web-is}
 use Rattle.ground.specs.Grounds.{plain_sealed}
 use Rattle.nets.proofs.corners.corner_net.Goals as goal

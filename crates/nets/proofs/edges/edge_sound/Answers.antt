@@ -1,4 +1,4 @@
-use Rattle.std.proofs.Common.{◌≡◌, ℕ, ◌+◌, ◌≤◌, length, replicate, sym, refl, subst, arith}
+use Rattle.std.proofs.Common.{ℕ, ◌≤◌, length, replicate, subst, arith}
 use Rattle.std.proofs.lemmas.List.{length-replicate}
 use Rattle.rules.specs.Listings.{Many}
 use Rattle.rules.specs.Questions.{AtEdge}

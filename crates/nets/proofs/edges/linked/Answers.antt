@@ -1,6 +1,6 @@
-use Rattle.std.proofs.Common.{◌≡◌, ℕ, ◌+◌, ◌≤◌, true, false, length, replicate, sym, refl, arith}
-use lib.ListN.{length-replicate}
-use Rattle.std.proofs.lemmas.Bool.{leb-true, le-leb, false≢true}
+use Rattle.std.proofs.Common.{ℕ, ◌+◌, ◌≤◌, length, replicate, arith}
+use Rattle.std.proofs.lemmas.List.{length-replicate}
+use Rattle.std.proofs.lemmas.Bool.{leb-true, le-leb}
 use Rattle.carry.specs.declared.turn.Turn.TheVariants.{Straight}
 use Rattle.rules.proofs.Counted.{counted_le}
 use Rattle.rules.proofs.Starred.{star_counts, never_refused, linked-few, few-linked}

@@ -1,5 +1,5 @@
-use Rattle.std.proofs.Common.{◌≡◌, ℕ, Bool, true, false, ◌&&◌, List, sym, refl, ap, ◌∙◌}
-use Rattle.rules.specs.NetTests.{among, read_at, holds}
+use Rattle.std.proofs.Common.{ℕ, Bool, ◌&&◌, List, ap, ◌∙◌}
+use Rattle.rules.specs.NetTests.{among, holds}
 use Rattle.ground.specs.Grounds.{plain_sealed}
 use Rattle.nets.proofs.joins.holds.Goals as goal
 

@@ -1,4 +1,4 @@
-use Rattle.std.proofs.Common.{◌≡◌, ℕ, ◌+◌, ◌*◌, ◌<◌, ◌≤◌, ◌⊎◌, length, sym, refl, inl, inr, arith}
+use Rattle.std.proofs.Common.{◌+◌, ◌*◌, ◌≤◌, ◌⊎◌, length, sym, refl, inl, inr, arith}
 use Rattle.rules.proofs.Webbed.{outside, partner_out}
 use Rattle.rules.proofs.Told.{half_there, told_partner}
 use Rattle.ground.specs.Grounds.{plain_sealed}

@@ -1,4 +1,4 @@
-use Rattle.std.proofs.Common.{◌≡◌, sym, refl, ap, ◌∙◌, subst}
+use Rattle.std.proofs.Common.{ap}
 use Rattle.rules.specs.NetTests.{placed, cell_joins}
 use Rattle.nets.proofs.joins.place.Goals as goal
 

@@ -1,4 +1,4 @@
-use Rattle.std.proofs.Common.{◌≡◌, ℕ, sym, refl}
+use Rattle.std.proofs.Common.{refl}
 use Rattle.refusal.specs.declared.Refusal.TheVariants.{VerticesEqual}
 use Rattle.rules.specs.Soundness.EdgeSoundCause.{equal}
 use Rattle.rules.proofs.Sounding.{edge_there}

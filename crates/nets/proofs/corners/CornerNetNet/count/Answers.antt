@@ -1,4 +1,4 @@
-use Rattle.std.proofs.Common.{◌≡◌, ℕ, sym, arith}
+use Rattle.std.proofs.Common.{arith}
 use Rattle.carry.specs.Digits.{corner_kind}
 use Rattle.rules.specs.NetTests.{opposite, crossing}
 use Rattle.rules.proofs.Opposites.{rows_exact}

@@ -1,4 +1,4 @@
-use Rattle.std.proofs.Common.{◌≡◌, ℕ, ◌+◌, ◌*◌, ◌/◌, ◌%◌, ◌<◌, sym, ◌∙◌, arith}
+use Rattle.std.proofs.Common.{sym, ◌∙◌, arith}
 use Rattle.rules.proofs.CornerNets.{partner_joined, across_lawful, across_step, across_none}
 use Rattle.ground.specs.Grounds.{plain_sealed}
 use Rattle.nets.proofs.corners.CornerNetNet.step.Goals as goal

@@ -1,4 +1,4 @@
-use Rattle.std.proofs.Common.{◌≡◌, sym, refl, arith}
+use Rattle.std.proofs.Common.{refl, arith}
 use Rattle.carry.specs.declared.turn.Turn.TheVariants.{Straight}
 use Rattle.rules.proofs.Starred.{star-sound}
 use Rattle.ground.specs.Grounds.{plain_sealed}

@@ -1,4 +1,4 @@
-use Rattle.std.proofs.Common.{◌≡◌, ℕ, ◌<◌, sym, ap, ◌∙◌, arith}
+use Rattle.std.proofs.Common.{sym, arith}
 use Rattle.rules.proofs.Webbed.{joined_from}
 use Rattle.rules.proofs.Starred.{star_to, star_not, star_open}
 use Rattle.ground.specs.Grounds.{plain_sealed}
