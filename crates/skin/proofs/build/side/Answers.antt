@@ -8,25 +8,25 @@ bounds-items-found c =
     let half = (mated_low c.in-Ok.ensures.tells.1).0.0 in let few = c.requires.skin.few in let long = c.requires.items.long in
     omega arith
 
-pub overflow-mul-result : goal.overflow-mul-result
-overflow-mul-result c =
+pub overflow_mul-result : goal.overflow_mul-result
+overflow_mul-result c =
     let at = mated_low c.in-Ok.ensures.tells.1 in
     let low = side_low c.requires.skin c.requires.items c.in-Ok.found.half_face c.in-Ok.found.place at.0 at.1 in
     omega arith
 
-pub overflow-add-result : goal.overflow-add-result
-overflow-add-result c =
+pub overflow_add-result : goal.overflow_add-result
+overflow_add-result c =
     let at = mated_low c.in-Ok.ensures.tells.1 in
     let low = side_low c.requires.skin c.requires.items c.in-Ok.found.half_face c.in-Ok.found.place at.0 at.1 in
     omega arith
 
-pub turn-between-requires : goal.turn-between-requires
-turn-between-requires c =
+pub turn_between-requires : goal.turn_between-requires
+turn_between-requires c =
     let at = mated_low c.in-Ok.ensures.tells.1 in let near = c.requires.near in
     ((c.requires.skin.listing.sound (c.args.k / 3) (omega arith)).0, (omega arith, (at.0.0, at.1)))
 
 pub returns : goal.returns
-returns c = leads_so c.requires.skin c.requires.items c.args.k c.in-Ok.found c.turn-between.result c.in-Ok.ensures.tells.1 c.in-Ok.ensures.back c.turn-between.ensures
+returns c = leads_so c.requires.skin c.requires.items c.args.k c.in-Ok.found c.turn_between.result c.in-Ok.ensures.tells.1 c.in-Ok.ensures.back c.turn_between.ensures
 
 pub unreachable-requires : goal.unreachable-requires
 unreachable-requires c =

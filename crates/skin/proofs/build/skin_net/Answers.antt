@@ -7,26 +7,30 @@ use Rattle.skin.proofs.Paired.{skin_low, skin_few}
 use Rattle.skin.proofs.SkinWebs.{all_near, all_back, skin_web}
 use Rattle.skin.proofs.build.skin_net.Goals as goal
 
-pub item-numbers-items-requires : goal.item-numbers-items-requires
-item-numbers-items-requires c =
-    let skin = c.skin-triangles-count.ensures.skin in record { rising = skin.listing.rising; near = skin_low skin; few = skin_few skin }
+pub item_numbers-items-requires : goal.item_numbers-items-requires
+item_numbers-items-requires c =
+    let skin = c.skin_triangles-count.ensures.skin in record { rising = skin.listing.rising; near = skin_low skin; few = skin_few skin }
 
-pub all-sides-sides-requires : goal.all-sides-sides-requires
-all-sides-sides-requires c =
-    let skin = c.skin-triangles-count.ensures.skin in record { skin = skin; items = c.item-numbers-items.ensures; few = skin_few skin }
+pub all_sides-sides-requires : goal.all_sides-sides-requires
+all_sides-sides-requires c =
+    let skin = c.skin_triangles-count.ensures.skin in record { skin = skin; items = c.item_numbers-items.ensures; few = skin_few skin }
 
-pub invariant-of-result : goal.invariant-of-result
-invariant-of-result c =
-    let skin = c.skin-triangles-count.ensures.skin in let all = c.all-sides-sides.ensures in
-    let n = c.skin-triangles-count.result in let xs = c.all-sides-sides.result in
-    let many = length-take-le n c.skin-triangles-count.new.list c.skin-triangles-count.ensures.fits in
+pub invariant_of-result : goal.invariant_of-result
+invariant_of-result c =
+    let skin = c.skin_triangles-count.ensures.skin in let all = c.all_sides-sides.ensures in
+    let n = c.skin_triangles-count.result in let xs = c.all_sides-sides.result in
+    let many = length-take-le n c.skin_triangles-count.new.list c.skin_triangles-count.ensures.fits in
     let most = skin_few skin in
     let few : n ≤ 4096 = omega arith in
-    (few, ((λ k l. let near = all_near xs skin.listing all k (omega arith) in omega arith), ((λ k l. all_back xs skin.listing all k (omega arith)), tt)))
+    record {
+      few = few;
+      near = λ k l. let near = all_near xs skin.listing all k (omega arith) in omega arith;
+      back = λ k l. all_back xs skin.listing all k (omega arith);
+    }
 
 pub returns : goal.returns
 returns c =
-    let skin = c.skin-triangles-count.ensures.skin in
-    let n = c.skin-triangles-count.result in let xs = c.all-sides-sides.result in
-    let many = length-take-le n c.skin-triangles-count.new.list c.skin-triangles-count.ensures.fits in
-    subst (λ (m : ℕ). SkinWeb (plain_sealed c.args.ground.now).list (side_web m xs)) many (skin_web xs skin.listing c.all-sides-sides.ensures)
+    let skin = c.skin_triangles-count.ensures.skin in
+    let n = c.skin_triangles-count.result in let xs = c.all_sides-sides.result in
+    let many = length-take-le n c.skin_triangles-count.new.list c.skin_triangles-count.ensures.fits in
+    subst (λ (m : ℕ). SkinWeb (plain_sealed c.args.ground.now).list (side_web m xs)) many (skin_web xs skin.listing c.all_sides-sides.ensures)
