@@ -123,6 +123,7 @@ fn a_joined_triangle_has_its_lower_half_face(rt: HostRuntime) {
             face(1, 3, 4, 5),
             face(2, 3, 4, 4),
         ]
+        .as_slice()
     );
 }
 
@@ -150,6 +151,7 @@ fn an_edge_has_an_open_half_face_before_a_lower_joined_one(rt: HostRuntime) {
             edge(2, 4, 4),
             edge(3, 4, 4),
         ]
+        .as_slice()
     );
 }
 
