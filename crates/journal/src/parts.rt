@@ -26,7 +26,7 @@ pub(crate) fn carry_over<N: Net>(
     marks: &mut [u8],
 ) -> Answer
     requires { (Fits k labels.old) × (Fits m marks.old) }
-    ensures { Carries (web net.now) N.Label.Label.kind N.Label.Label.meaning k m labels.old marks.old result labels.new marks.new }
+    ensures { Carries (N.web net.now) N.Label.Label.kind N.Label.Label.meaning k m labels.old marks.old result labels.new marks.new }
 {
     let from = k.from;
     let to = k.from + k.places;

@@ -41,7 +41,7 @@ fn step<'a, N: Net>(
     marks: &mut [u8],
     answer: &mut Answer,
 ) -> Open<'a>
-    ensures { Step (net_of (web net.now) N.Label.Label.kind N.Label.Label.meaning) (state_of (standing sealed.old (plain ground.entry)) desk.old marks.old) (record { call = call; answer = answer.new }) (state_of (standing sealed.new (plain result)) desk.new marks.new) }
+    ensures { Step (net_of (N.web net.now) N.Label.Label.kind N.Label.Label.meaning) (state_of (standing sealed.old (plain ground.entry)) desk.old marks.old) (record { call = call; answer = answer.new }) (state_of (standing sealed.new (plain result)) desk.new marks.new) }
 {
     *answer = Answer::NotMade;
     match call {
@@ -93,7 +93,7 @@ pub fn replay<'a, N: Net>(
     marks: &mut [u8],
 ) -> Open<'a>
     ensures promise { Promise N.Label }
-    ensures replayed { Replayed (net_of (web net.now) N.Label.Label.kind N.Label.Label.meaning) (length places.old) journal.old journal.new (state_of (made (length places.old)) desk.old marks.old) (λ b. state_of (standing b (plain result)) desk.new marks.new) }
+    ensures replayed { Replayed (net_of (N.web net.now) N.Label.Label.kind N.Label.Label.meaning) (length places.old) journal.old journal.new (state_of (made (length places.old)) desk.old marks.old) (λ b. state_of (standing b (plain result)) desk.new marks.new) }
 {
     let mut ground = make(places);
     let mut sealed = false;

@@ -15,14 +15,14 @@ pub returns-in-Ok : goal.returns-in-Ok
 returns-in-Ok c =
     let Right = EdgeEntries (plain_sealed c.args.ground.now).list in
     let free : List (Entry Pair) = replicate 12288 (record { key = c.args.key; half_face = 0 }) in
-    let index = held c.edge-index-index.result.index in
+    let index = held c.edge_index-index.result.index in
     found Right pair_order c.args.key c.args.places (take c.args.places free) (enough 12288 (record { key = c.args.key; half_face = 0 }) c.args.places c.requires) index c.in-Ok.field-0 c.find.result
-    (subst (λ (r : Result ℕ Refusal). Makes Right (take c.args.places free) r index) c.in-Ok.is c.edge-index-index.ensures) c.find.ensures
+    (subst (λ (r : Result ℕ Refusal). Makes Right (take c.args.places free) r index) c.in-Ok.is c.edge_index-index.ensures) c.find.ensures
 
 pub returns-in-Err : goal.returns-in-Err
 returns-in-Err c =
     let Right = EdgeEntries (plain_sealed c.args.ground.now).list in
     let free : List (Entry Pair) = replicate 12288 (record { key = c.args.key; half_face = 0 }) in
-    let index = held c.edge-index-index.result.index in
+    let index = held c.edge_index-index.result.index in
     refused Right pair_order c.args.key c.args.places (take c.args.places free) (enough 12288 (record { key = c.args.key; half_face = 0 }) c.args.places c.requires) index c.in-Err.refusal
-    (subst (λ (r : Result ℕ Refusal). Makes Right (take c.args.places free) r index) c.in-Err.is c.edge-index-index.ensures)
+    (subst (λ (r : Result ℕ Refusal). Makes Right (take c.args.places free) r index) c.in-Err.is c.edge_index-index.ensures)

@@ -15,14 +15,14 @@ pub returns-in-Ok : goal.returns-in-Ok
 returns-in-Ok c =
     let Right = FaceEntries (plain_sealed c.args.ground.now).list in
     let free : List (Entry Triple) = replicate 4096 (record { key = c.args.key; half_face = 0 }) in
-    let index = held c.face-index-index.result.index in
+    let index = held c.face_index-index.result.index in
     found Right triple_order c.args.key c.args.places (take c.args.places free) (enough 4096 (record { key = c.args.key; half_face = 0 }) c.args.places c.requires) index c.in-Ok.field-0 c.find.result
-    (subst (λ (r : Result ℕ Refusal). Makes Right (take c.args.places free) r index) c.in-Ok.is c.face-index-index.ensures) c.find.ensures
+    (subst (λ (r : Result ℕ Refusal). Makes Right (take c.args.places free) r index) c.in-Ok.is c.face_index-index.ensures) c.find.ensures
 
 pub returns-in-Err : goal.returns-in-Err
 returns-in-Err c =
     let Right = FaceEntries (plain_sealed c.args.ground.now).list in
     let free : List (Entry Triple) = replicate 4096 (record { key = c.args.key; half_face = 0 }) in
-    let index = held c.face-index-index.result.index in
+    let index = held c.face_index-index.result.index in
     refused Right triple_order c.args.key c.args.places (take c.args.places free) (enough 4096 (record { key = c.args.key; half_face = 0 }) c.args.places c.requires) index c.in-Err.refusal
-    (subst (λ (r : Result ℕ Refusal). Makes Right (take c.args.places free) r index) c.in-Err.is c.face-index-index.ensures)
+    (subst (λ (r : Result ℕ Refusal). Makes Right (take c.args.places free) r index) c.in-Err.is c.face_index-index.ensures)

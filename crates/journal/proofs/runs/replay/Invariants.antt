@@ -9,7 +9,7 @@ use Rattle.journal.proofs.runs.replay.Given as goal
 abbrev pub invariant-loop-i : goal.invariant-loop-i
 invariant-loop-i g l =
     (map (λ (x : Exchange). x.call) l.journal ≡ map (λ (x : Exchange). x.call) l.initial.journal)
-    × Replay (net_of (g.N.Net.web l.net) g.Label.Label.kind g.Label.Label.meaning)
+    × Replay (net_of (g.N.Net.web l.net) g.N.Label.Label.kind g.N.Label.Label.meaning)
     (state_of (standing l.initial.sealed (plain l.initial.ground)) l.initial.desk l.initial.marks)
     (take l.i l.journal)
     (state_of (standing l.sealed (plain l.ground)) l.desk l.marks)
