@@ -9,7 +9,7 @@ use Rattle.rules.specs.Readings.{face, listed, SameTriangle}
 use Rattle.rules.specs.Tests.{on, high_test, repeat_test}
 use Rattle.rules.specs.NetTests.{same_three}
 use Rattle.rules.specs.PlainList.{Plain, laid, lifted, turned, StandsIn, TriangleOf, CrowdedIn, LayCause}
-use Rattle.rules.proofs.Causes.{first_high, first_equal, first-full, first-present, first_taken, no_cause, no_row_cause}
+use Rattle.rules.proofs.Causes.{first_high, first_equal, first_full, first_present, first_taken, no_cause, no_row_cause}
 use Rattle.rules.proofs.Corners.{triangle_to, triangle_from, in_to, in_from}
 use Rattle.rules.proofs.Judged.{high_so, not_high, repeat_so, not_repeated}
 use Rattle.rules.proofs.Webbed.{on_reading, same_from, same_to}
@@ -160,12 +160,12 @@ refused_so p x VerticesEqual e = let a = and_parts (not (high_test x)) _ e in fi
 refused_so p x NoFreePlace e =
     let a = and_parts (fine x) _ e in
     let f = fine_so x a.0 in
-    first-full p x f.0 f.1 (ltb-false (length p.list) p.places (not-true _ a.1))
+    first_full p x f.0 f.1 (ltb-false (length p.list) p.places (not-true _ a.1))
 refused_so p x CellPresent e =
     let a = and_parts (roomy p x) _ e in
     let b = roomy_so p x a.0 in
     let f = fine_so x b.0 in
-    first-present p x f.0 f.1 b.1 (stands_so p.list x a.1)
+    first_present p x f.0 f.1 b.1 (stands_so p.list x a.1)
 refused_so p x TriangleTaken e =
     let a = and_parts (fresh p x) _ e in
     let d = fresh_so p x a.0 in

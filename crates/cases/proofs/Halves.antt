@@ -54,12 +54,12 @@ unfoldable pub one_opposite : List (List ℕ) → ℕ → Bool
 one_opposite rs h = let o = opposite rs h in every (4 * length rs) (λ g. implies (meets rs h g) (names o g))
 
 -- no triangle is in three half-faces
-unfoldable pub no_three : List (List ℕ) → Bool
-no_three rs = every (4 * length rs) (one_opposite rs)
+unfoldable pub none_crowded : List (List ℕ) → Bool
+none_crowded rs = every (4 * length rs) (one_opposite rs)
 
-pub no_three_lem : (rs : List (List ℕ)) → no_three rs ≡ true → NoThree rs
-unfolding no_three one_opposite
-no_three_lem rs e h g k a b =
+pub no_three : (rs : List (List ℕ)) → none_crowded rs ≡ true → NoThree rs
+unfolding none_crowded one_opposite
+no_three rs e h g k a b =
     let at = every_at (4 * length rs) (one_opposite rs) e h a.half in
     let is : (x : ℕ) → Joined rs h x → opposite rs h ≡ Some x = λ x j.
     named (opposite rs h) x (implied (meets rs h x) (names (opposite rs h) x) (every_at (4 * length rs) (λ g. implies (meets rs h g) (names (opposite rs h) g)) at x j.there) (joined_meets rs h x j)) in

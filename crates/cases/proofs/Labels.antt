@@ -20,27 +20,27 @@ use Rattle.rules.specs.Orients.{OrientCause}
 use Rattle.rules.specs.Orients.OrientCause.{few_labels, few_marks, none_agree}
 use Rattle.rules.specs.Tests.{repeat_test, picks}
 use Rattle.rules.specs.NetTests.{alike, turning, crossing, turn_web, corner_web}
-use Rattle.rules.proofs.CornerNets.{distinct, crossing_sides, step_only, corner-web-is}
+use Rattle.rules.proofs.CornerNets.{distinct, crossing_sides, step_only, corner_web_is}
 use Rattle.rules.proofs.Counted.{counts_picks}
 use Rattle.rules.proofs.Judged.{not_repeated}
 use Rattle.rules.proofs.TurnNets.{alike_true, alike_false, alike_cases, turn_web_is, opposed_agree}
 use Rattle.cases.specs.Cases.{Net, WebOf, Label, meaning, kind, OfNet, LongEnough}
 use Rattle.cases.specs.Cases.Net.{turns, corners}
 use Rattle.cases.proofs.Finite.{every, every_at}
-use Rattle.cases.proofs.Halves.{no_three, no_three_lem}
+use Rattle.cases.proofs.Halves.{none_crowded, no_three}
 use Rattle.cases.proofs.Webs.{carries, carried, changes, round, label_at}
 
 -- THE TWO NETS
 
 -- four different vertices in each row, and no triangle in three half-faces
 unfoldable pub lawful : List (List ℕ) → Bool
-lawful rs = every (length rs) (λ t. not (repeat_test (get_or rs t []))) && no_three rs
+lawful rs = every (length rs) (λ t. not (repeat_test (get_or rs t []))) && none_crowded rs
 
 pub lawful_so : (rs : List (List ℕ)) → lawful rs ≡ true → AllDiffer rs × NoThree rs
 unfolding lawful
 lawful_so rs e =
     let a = and_parts (every (length rs) (λ t. not (repeat_test (get_or rs t [])))) _ e in
-    ((λ t l. not_repeated (get_or rs t []) (not-true _ (every_at (length rs) (λ t. not (repeat_test (get_or rs t []))) a.0 t l))), no_three_lem rs a.1)
+    ((λ t l. not_repeated (get_or rs t []) (not-true _ (every_at (length rs) (λ t. not (repeat_test (get_or rs t []))) a.0 t l))), no_three rs a.1)
 
 -- the step from a half-face to its opposite
 unfoldable pub step : Net → List (List ℕ) → ℕ → ℕ → ℕ
@@ -72,7 +72,7 @@ steps corners rs d w t = corner_step rs d w t
 
 web : (n : Net) (rs : List (List ℕ)) → AllDiffer rs → NoThree rs → (w : Web) × WebOf n rs w
 web turns rs d t = (turn_web rs, turn_web_is rs t)
-web corners rs d t = (corner_web rs, corner-web-is rs d t)
+web corners rs d t = (corner_web rs, corner_web_is rs d t)
 
 -- LABELS THAT AGREE
 

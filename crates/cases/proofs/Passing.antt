@@ -80,7 +80,7 @@ all_passed (c ∷ cs) e = let a = and_parts (passes c) (all_pass cs) e in also (
 table_passes : all_pass cases ≡ true
 unfolding all_pass passes test cases every some N.alike N.meets N.lowest N.opposite N.holds N.corner_at N.sent N.crossing different composed
     C.within C.same_row C.same_face C.stands C.has_face C.twice C.crowded C.fine C.roomy C.fresh refused_with layable C.accepts C.next accepts_all last
-    joins opens H.one_opposite H.no_three E.at_edge lists_edge E.stays_in cuts_edge E.leads_before E.hangs links_edge
+    joins opens H.one_opposite H.none_crowded E.at_edge lists_edge E.stays_in cuts_edge E.leads_before E.hangs links_edge
     W.agrees_over W.agrees_all W.follows W.carries W.changes L.lawful L.step labelled L.every_label L.twists unlabelled oriented
     M.runs M.edge_at M.besides M.mates mated
 table_passes = refl

@@ -116,19 +116,19 @@ module _ (rs : List (List ℕ)) (w : Web) (k : Kind) (f : ℕ → ℕ → ℕ) (
         (subst (Led w k 0 (h / 4)) (sym (agree (g / 4) (g % 4) (at h) e.0)) (goes r.0 e.0), reach_on (on here (across h g b.2).0) r.1))
         (cases_eq i 0)
 
-    first-only : (i : ℕ) → FirstItem w i → i ≡ 0
-    first-only i q = let l = q.0 in let e = c.items in let z = q.1 0 (way (suc i) i (omega arith) (omega arith)).1 in omega arith
+    first_only : (i : ℕ) → FirstItem w i → i ≡ 0
+    first_only i q = let l = q.0 in let e = c.items in let z = q.1 0 (way (suc i) i (omega arith) (omega arith)).1 in omega arith
 
-    first-0 : FirstItem w 0
-    first-0 = (let e = c.items in omega arith, λ j r. omega arith)
+    first_0 : FirstItem w 0
+    first_0 = (let e = c.items in omega arith, λ j r. omega arith)
 
-    one-first : (n : ℕ) → Counts (FirstItem w) (suc n) 1
-    one-first zero = one none first-0
-    one-first (suc n) = skip (one-first n) (λ q. let z = first-only (suc n) q in omega arith)
+    one_first : (n : ℕ) → Counts (FirstItem w) (suc n) 1
+    one_first zero = one none first_0
+    one_first (suc n) = skip (one_first n) (λ q. let z = first_only (suc n) q in omega arith)
 
-    count-first : (n : ℕ) → 0 < n → Counts (FirstItem w) n 1
-    count-first zero l = absurd (omega arith)
-    count-first (suc n) l = one-first n
+    count_first : (n : ℕ) → 0 < n → Counts (FirstItem w) n 1
+    count_first zero l = absurd (omega arith)
+    count_first (suc n) l = one_first n
 
     in_rows : (i : ℕ) → i < w.items → i < length rs
     in_rows i l = let e = c.items in omega arith
@@ -136,10 +136,10 @@ module _ (rs : List (List ℕ)) (w : Web) (k : Kind) (f : ℕ → ℕ → ℕ) (
     pub agreeing : {M : Type 0} (meaning : M → ℕ) → Agreeing w k meaning ls 1
     agreeing meaning = record {
       agrees = agree;
-      grounded = λ i q. ap (λ (x : ℕ). get_or ls x 0) (first-only i q) ∙ neutral;
-      only = λ xs room a g i l. determined (map meaning xs) a (g 0 first-0) (way (suc i) i (omega arith) (in_rows i l)).0;
-      counted = count-first w.items (let e = c.items in omega arith);
-      pieced = λ i l. (0, first-0, reached (way (suc i) i (omega arith) (in_rows i l)).0);
+      grounded = λ i q. ap (λ (x : ℕ). get_or ls x 0) (first_only i q) ∙ neutral;
+      only = λ xs room a g i l. determined (map meaning xs) a (g 0 first_0) (way (suc i) i (omega arith) (in_rows i l)).0;
+      counted = count_first w.items (let e = c.items in omega arith);
+      pieced = λ i l. (0, first_0, reached (way (suc i) i (omega arith) (in_rows i l)).0);
     }
 
   pub carried : {M : Type 0} (meaning : M → ℕ) (ls : List ℕ) → carries rs k f ls ≡ true → Agreeing w k meaning ls 1

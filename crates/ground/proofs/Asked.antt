@@ -30,7 +30,7 @@ lawful g = record {
   low = λ t l h. omega (arith, g.below t h.0 (l, h.1), h.2);
   differ = λ t l h. g.differ t h.0 h.1 (l, h.2, h.3, h.4);
   apart = λ t u l k s. g.apart t u (l, k, vertices_to (get_or (plain_sealed g).list t []) (get_or (plain_sealed g).list u []) s);
-  no_three_lem = joined_one g.cells.records.now g.cells.count g.room (law g);
+  no_three = joined_one g.cells.records.now g.cells.count g.room (law g);
 }
 
 pub opposite_so : (g : Sealed) (h : ℕ) (o : Option ℕ) → h < 4 * g.cells.count → o ≡ join_at g.cells.records.now h → OppositeIs (plain_sealed g).list h o

@@ -115,15 +115,15 @@ module _ (cs : List Cell) (n : ℕ) (x : List ℕ) (os : List (Option ℕ)) (roo
         (λ p. absurd (missed i g l p b s))
         (some_cases (get_or os i None))
 
-    pub met-so : Met (rows cs n) x os
-    met-so = record {
+    pub met_so : Met (rows cs n) x os
+    met_so = record {
       sound = λ i g l p. (past.seen i l).sound g p;
       whole = λ i g l b s. only i g l (subst (λ (k : ℕ). g < 4 * k) len b) s;
       fresh = past.fresh;
     }
 
-    pub not-crowded : CrowdedIn (rows cs n) x → ⊥
-    not-crowded (i, t, u, i4, o, b, (j, j4, p), (k, k4, q)) =
+    pub not_crowded : CrowdedIn (rows cs n) x → ⊥
+    not_crowded (i, t, u, i4, o, b, (j, j4, p), (k, k4, q)) =
         let un : u < n = rw len at b in
         let a = only i (4 * t + j) i4 (omega arith) (λ v. triangle_to x (get_or (rows cs n) t []) i j i4 j4 p v ∙ sym (face_at (rows cs n) (4 * t + j) t j v (omega arith) (omega arith))) in
         let d = only i (4 * u + k) i4 (omega arith) (λ v. triangle_to x (get_or (rows cs n) u []) i k i4 k4 q v ∙ sym (face_at (rows cs n) (4 * u + k) u k v (omega arith) (omega arith))) in

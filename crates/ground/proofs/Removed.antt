@@ -232,16 +232,16 @@ module _ (cs : List Cell) (p t : ℕ) (tl : t ≤ p) (f : Facts cs (p + 1)) wher
     m4 : 4 * (p + 1) ≡ 4 * p + 4
     m4 = omega arith
 
-    exact-moved : Exact (on_face after) (4 * p) (join_at (moved_cells (freed cs t) p t))
-    exact-moved = lift_exact (on_face (rows cs (p + 1))) (on_face after) t p lt (join_at cs) (join_at (freed cs t)) (join_at (moved_cells (freed cs t) p t)) (join_at (set (freed cs t) t (get_or (freed cs t) p blank)))
+    exact_moved : Exact (on_face after) (4 * p) (join_at (moved_cells (freed cs t) p t))
+    exact_moved = lift_exact (on_face (rows cs (p + 1))) (on_face after) t p lt (join_at cs) (join_at (freed cs t)) (join_at (moved_cells (freed cs t) p t)) (join_at (set (freed cs t) t (get_or (freed cs t) p blank)))
         last_apart
         (λ h g l ne q. us h g (omega arith) q)
         (λ h g l ne k q. uw h g (omega arith) k q)
         kh kt jw jo ff
         (subst (λ (k : ℕ). Exact (on_face (rows cs (p + 1))) k (join_at cs)) m4 e)
 
-    rows-moved : rows (moved_cells (freed cs t) p t) p ≡ after
-    rows-moved =
+    rows_moved : rows (moved_cells (freed cs t) p t) p ≡ after
+    rows_moved =
         let l2 : p ≤ length (set (freed cs t) t (get_or (freed cs t) p blank)) = (let r = room_2 in omega arith) in
         let l0 : p ≤ length cs = (let r = room in omega arith) in
         rows_relinked_all (set (freed cs t) t (get_or (freed cs t) p blank)) p (get_or (freed cs t) p blank).joins (faces_of t) l2
@@ -250,51 +250,51 @@ module _ (cs : List Cell) (p t : ℕ) (tl : t ≤ p) (f : Facts cs (p + 1)) wher
         ∙ ap (λ (y : List ℕ). set (take p (rows cs (p + 1))) t y) (sym (rows_at (freed cs t) (p + 1) p room_1 (omega arith)) ∙ ap (λ (z : List (List ℕ)). get_or z p []) rows_1)
         ∙ sym (take-set-lt p (rows cs (p + 1)) t (get_or (rows cs (p + 1)) p []) lt)
 
-    facts-moved : Facts (moved_cells (freed cs t) p t) p
-    facts-moved =
-        let q = sym rows-moved in
+    facts_moved : Facts (moved_cells (freed cs t) p t) p
+    facts_moved =
+        let q = sym rows_moved in
         record {
           room = rw (length_relinked_all (set (freed cs t) t (get_or (freed cs t) p blank)) (get_or (freed cs t) p blank).joins (faces_of t)) (let r = room_2 in omega arith);
           below = subst Below q below';
           differ = subst Differ q differ';
           apart = subst Apart q apart';
           four = λ u l. four_relinked_all (set (freed cs t) t (get_or (freed cs t) p blank)) (p + 1) (get_or (freed cs t) p blank).joins (faces_of t) room_2 four_2 u (omega arith);
-          exact = subst (λ (y : List (List ℕ)). Exact (on_face y) (4 * p) (join_at (moved_cells (freed cs t) p t))) q exact-moved;
+          exact = subst (λ (y : List (List ℕ)). Exact (on_face y) (4 * p) (join_at (moved_cells (freed cs t) p t))) q exact_moved;
         }
 
   module _ (eq : t ≡ p) where
-    same-face : (h v : ℕ) → h < 4 * p → on_face after h v ≡ on_face (rows cs (p + 1)) h v
-    same-face h v l =
+    same_face_lem : (h v : ℕ) → h < 4 * p → on_face after h v ≡ on_face (rows cs (p + 1)) h v
+    same_face_lem h v l =
         ap (λ (y : List ℕ). on y (h % 4) v) (after_at (h / 4) (omega arith))
         ∙ ap (λ (k : ℕ). on (get_or (rows cs (p + 1)) k []) (h % 4) v) (was_same (h / 4) (λ q. omega arith))
 
-    exact-freed : Exact (on_face after) (4 * p) (join_at (freed cs t))
-    exact-freed = renumber (on_face (rows cs (p + 1))) (on_face after) (4 * (p + 1)) (4 * p) (join_at cs) (join_at (freed cs t)) (λ h. h)
+    exact_freed : Exact (on_face after) (4 * p) (join_at (freed cs t))
+    exact_freed = renumber (on_face (rows cs (p + 1))) (on_face after) (4 * (p + 1)) (4 * p) (join_at cs) (join_at (freed cs t)) (λ h. h)
         (λ h g l k q. q)
         (λ h l. omega arith)
-        same-face
+        same_face_lem
         (λ h g l q. let s = us h g (omega arith) q in
         let b : g < 4 * (p + 1) = e.near h g (omega arith) s.0 in
         (⊎_elim (λ a. a) (λ a. absurd (s.1 (omega arith))) (cases_lt g (4 * p)), s.0))
         (λ h g l k q. uw h g (omega arith) (λ z. omega arith) q)
         e
 
-    rows-freed : rows (freed cs t) p ≡ after
-    rows-freed =
+    rows_freed : rows (freed cs t) p ≡ after
+    rows_freed =
         rows_relinked_all cs p (get_or cs t blank).joins nones (let r = room in omega arith)
         ∙ sym front
         ∙ sym (take-set-le p (rows cs (p + 1)) t (get_or (rows cs (p + 1)) p []) (omega arith))
 
-    facts-freed : Facts (freed cs t) p
-    facts-freed =
-        let q = sym rows-freed in
+    facts_freed : Facts (freed cs t) p
+    facts_freed =
+        let q = sym rows_freed in
         record {
           room = (let r = room_1 in omega arith);
           below = subst Below q below';
           differ = subst Differ q differ';
           apart = subst Apart q apart';
           four = λ u l. four_1 u (omega arith);
-          exact = subst (λ (y : List (List ℕ)). Exact (on_face y) (4 * p) (join_at (freed cs t))) q exact-freed;
+          exact = subst (λ (y : List (List ℕ)). Exact (on_face y) (4 * p) (join_at (freed cs t))) q exact_freed;
         }
 
   -- either way
@@ -306,10 +306,10 @@ module _ (cs : List Cell) (p t : ℕ) (tl : t ≤ p) (f : Facts cs (p + 1)) wher
       (cases_lt t p)
 
   pub lifted_facts : Facts (lifted_cells cs p t) p
-  lifted_facts = by_way (λ (z : List Cell). Facts z p) facts-moved facts-freed
+  lifted_facts = by_way (λ (z : List Cell). Facts z p) facts_moved facts_freed
 
   pub rows_lifted : rows (lifted_cells cs p t) p ≡ take p (set (rows cs (p + 1)) t (get_or (rows cs (p + 1)) p []))
-  rows_lifted = by_way (λ (z : List Cell). rows z p ≡ after) rows-moved rows-freed
+  rows_lifted = by_way (λ (z : List Cell). rows z p ≡ after) rows_moved rows_freed
 
   pub length_lifted : length (lifted_cells cs p t) ≡ length cs
   length_lifted = by_way (λ (z : List Cell). length z ≡ length cs)

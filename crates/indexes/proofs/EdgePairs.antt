@@ -11,7 +11,7 @@ use Rattle.indexes.specs.Rule.{Stands}
 use Rattle.indexes.specs.Edges.{EdgeOf, OnEdge, RatherHalf}
 use Rattle.indexes.specs.Gathered.{EdgesBefore, Before, Chosen, Offered}
 use Rattle.indexes.proofs.Orders.{pair_total}
-use Rattle.indexes.proofs.Offers.{Added, offered, gathered-as}
+use Rattle.indexes.proofs.Offers.{Added, offered, gathered_as}
 use Rattle.indexes.proofs.Rules.{rather_itself, rather_chain, rather_as}
 
 -- ---- the half-face that is chosen
@@ -155,7 +155,7 @@ module _ (rs : List (List ℕ)) (h : ℕ) (half : Half rs h) (i j k : Pair) (thr
       → Offered pair_order (RatherHalf rs) i h es fs → Offered pair_order (RatherHalf rs) j h fs gs → Offered pair_order (RatherHalf rs) k h gs hs
       → EdgesBefore rs (h + 1) hs
   passed es fs gs hs a x y z =
-      gathered-as pair_total Three (Before (OnEdge rs) (h + 1)) (RatherHalf rs) to from hs
+      gathered_as pair_total Three (Before (OnEdge rs) (h + 1)) (RatherHalf rs) to from hs
       (offered pair_total Two (RatherHalf rs) itself chain k h gs hs
       (offered pair_total One (RatherHalf rs) itself chain j h fs gs
       (offered pair_total Had (RatherHalf rs) itself chain i h es fs a x) y) z)

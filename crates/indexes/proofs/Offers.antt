@@ -54,8 +54,8 @@ module _ {K : Type 0} {order : K → K → Ordering} (total : TotalOrder order) 
     renamed k None f = λ g p. f g (from k g p)
     renamed k (Some x) f = record { has = to k x f.has; rather = λ g p. f.rather g (from k g p) }
 
-    pub gathered-as : (es : List (Entry K)) → Gathered Has Rather order es → Gathered Had Rather order es
-    gathered-as es a k = renamed k (half_face_of order k es) (a k)
+    pub gathered_as : (es : List (Entry K)) → Gathered Has Rather order es → Gathered Had Rather order es
+    gathered_as es a k = renamed k (half_face_of order k es) (a k)
 
   -- an index without entries, where no half-face has a key yet
   pub gathered_none : (Has : K → ℕ → Type 0) (Rather : ℕ → ℕ → Type 0) (es : List (Entry K)) → es ≡ [] → ((k : K) (g : ℕ) → Has k g → ⊥) → Gathered Has Rather order es

@@ -11,7 +11,7 @@ use Rattle.indexes.specs.Faces.{triangle, Sorts, OnTriangle, FaceEntries}
 use Rattle.indexes.specs.Gathered.{FacesBefore, Before, Offered}
 use Rattle.indexes.proofs.Orders.{triple_total}
 use Rattle.indexes.proofs.Lookups.{no_longer}
-use Rattle.indexes.proofs.Offers.{Added, offered, gathered-as}
+use Rattle.indexes.proofs.Offers.{Added, offered, gathered_as}
 
 module _ {a : Reading} where
   at_least : (k : Triple) → Sorts a k → (v : ℕ) → On v (triangle k) → k.first ≤ v
@@ -45,7 +45,7 @@ module _ (rs : List (List ℕ)) (k : Triple) (h : ℕ) (on : OnTriangle rs k h) 
   -- half-face h is passed
   passed : (es fs : List (Entry Triple)) → FacesBefore rs h es → Offered triple_order (λ x g. x ≤ g) k h es fs → FacesBefore rs (h + 1) fs
   passed es fs a o =
-      gathered-as triple_total (Added triple_total (Before (OnTriangle rs) h) (λ x g. x ≤ g) itself chain k h) (Before (OnTriangle rs) (h + 1)) (λ x g. x ≤ g) to from fs
+      gathered_as triple_total (Added triple_total (Before (OnTriangle rs) h) (λ x g. x ≤ g) itself chain k h) (Before (OnTriangle rs) (h + 1)) (λ x g. x ≤ g) to from fs
       (offered triple_total (Before (OnTriangle rs) h) (λ x g. x ≤ g) itself chain k h es fs a o)
     where
       itself : (x : ℕ) → x ≤ x

@@ -53,7 +53,7 @@ opposites rs three = record {
   one = λ h o t. (t.1, λ k j. three h k o j t.1);
   back = λ h o t. (no_half_cause rs o t.1.there, joined_sym rs h o t.1);
   none = λ h l. (λ t. t.1.1, λ alone. (no_half_cause rs h l, (l, alone)));
-  no_three_lem = three;
+  no_three = three;
 }
 
 -- AFTER EVERY LIST OF CALLS
@@ -65,7 +65,7 @@ kept n log g r =
     record {
       plain = record { fed = f; only = λ cs q e h. fed_once h f e };
       lawful = w;
-      opposites = opposites g.plain.list w.no_three_lem;
+      opposites = opposites g.plain.list w.no_three;
       turns_meant = lawful_meant g.plain.list w;
       orient_refuses = λ xs xs' ms ms' s q o. orients_exactly g.plain xs ms s q xs' ms' o w;
       all_opposed = λ o. fed_oriented log f lawful_none o;

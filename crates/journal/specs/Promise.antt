@@ -74,7 +74,7 @@ pub record OppositesTold (rs : List (List ℕ)) : Type 0 where
   pub one : (h o : ℕ) → TellsOpposite rs h (Ok (Some o)) → Joined rs h o × ((k : ℕ) → Joined rs h k → k ≡ o)
   pub back : (h o : ℕ) → TellsOpposite rs h (Ok (Some o)) → TellsOpposite rs o (Ok (Some h))
   pub none : (h : ℕ) → Half rs h → TellsOpposite rs h (Ok None) ↔ ((o : ℕ) → Joined rs h o → ⊥)
-  pub no_three_lem : NoThree rs
+  pub no_three : NoThree rs
 
 -- CARRY
 

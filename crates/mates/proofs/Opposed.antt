@@ -128,21 +128,21 @@ module _ (rs : List (List ℕ)) (law : LawfulRows rs) where
       s
 
   module _ (all : AllOpposed rs) where
-    across-opposed : (u v h g e d : ℕ) → Joined rs h g → Runs (reads rs h) e u v → EdgeAt (reads rs g) d u v → Runs (reads rs g) d v u
-    across-opposed u v h g e d j p s =
+    across_opposed : (u v h g e d : ℕ) → Joined rs h g → Runs (reads rs h) e u v → EdgeAt (reads rs g) d u v → Runs (reads rs g) d v u
+    across_opposed u v h g e d j p s =
         other_way (reads rs g) d u v (λ q. all h g j (same_way (reads rs h) (reads rs g) e d u v (reads_apart rs law h j.half) j.same p q)) s
 
-    mate-opposed : (u v d m h : ℕ) → (u ≡ v → ⊥) → Mate rs u v h m → EdgeAt (reads rs m) d u v → Half rs h → (e : ℕ) → Runs (reads rs h) e u v → Runs (reads rs m) d v u
-    mate-opposed u v d m h n (arrives b o) s l e p = beside_opposed u v h m e d l b p s
-    mate-opposed u v d m h n (crosses {g = g} {o = o} b j q) s l e p =
+    mate_opposed : (u v d m h : ℕ) → (u ≡ v → ⊥) → Mate rs u v h m → EdgeAt (reads rs m) d u v → Half rs h → (e : ℕ) → Runs (reads rs h) e u v → Runs (reads rs m) d v u
+    mate_opposed u v d m h n (arrives b o) s l e p = beside_opposed u v h m e d l b p s
+    mate_opposed u v d m h n (crosses {g = g} {o = o} b j q) s l e p =
         let r = beside_opposed u v h g e b.edge.0 l b p b.edge.1 in
         let k = on_edge (reads rs o) u v (spans_across rs u v g o j (spans_beside rs u v h g n b)) in
-        let t = across-opposed v u g o b.edge.0 k.0 j r (edge_swap (reads rs o) k.0 u v k.1) in
-        mate-opposed u v d m o n q s j.there k.0 t
+        let t = across_opposed v u g o b.edge.0 k.0 j r (edge_swap (reads rs o) k.0 u v k.1) in
+        mate_opposed u v d m o n q s j.there k.0 t
 
   pub mates_opposed : AllOpposed rs → MatesOpposed rs
   mates_opposed all h e m d u v o w p =
       let s = runs_spans (reads rs h) e w.from w.to (reads_apart rs law h o.0) w.here in
       let r = runs_one (reads rs h) e w.from w.to u v w.here p in
       subst₂ (λ (x : ℕ) (y : ℕ). Runs (reads rs m) d y x) r.0 r.1
-      (mate-opposed all w.from w.to d m h s.2 w.mate w.there o.0 e w.here)
+      (mate_opposed all w.from w.to d m h s.2 w.mate w.there o.0 e w.here)

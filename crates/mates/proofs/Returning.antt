@@ -10,7 +10,7 @@ use Rattle.mates.specs.declared.side.EdgeSide.{EdgeSide}
 use Rattle.mates.specs.Edges.{Spans}
 use Rattle.mates.specs.Mating.{TellsMate}
 use Rattle.mates.proofs.EdgePlaces.{edge_swap, edge_low, edge_one, runs_one, runs_spans}
-use Rattle.mates.proofs.Steps.{spans_beside, spans_across, beside_sym, beside-one, reads_apart}
+use Rattle.mates.proofs.Steps.{spans_beside, spans_across, beside_sym, beside_one, reads_apart}
 use Rattle.mates.proofs.Refused.{no_mate_cause}
 
 beside_swap : (rs : List (List ℕ)) (u v h g : ℕ) → Beside rs u v h g → Beside rs v u h g
@@ -56,12 +56,12 @@ module _ (rs : List (List ℕ)) (law : LawfulRows rs) where
   joined_move {g} {k} {o} e j = subst (λ (z : ℕ). Joined rs z o) (sym e) j
 
   mate_one : (u v h m w : ℕ) → Half rs h → Spans (reads rs h) u v → Mate rs u v h m → Mate rs u v h w → m ≡ w
-  mate_one u v h m w l s (arrives b o) (arrives c p) = beside-one rs law u v h m w l s b c
-  mate_one u v h m w l s (arrives b o) (crosses c j q) = absurd (o.1 _ (joined_move (beside-one rs law u v h m _ l s b c) j))
-  mate_one u v h m w l s (crosses b j q) (arrives c p) = absurd (p.1 _ (joined_move (beside-one rs law u v h w _ l s c b) j))
+  mate_one u v h m w l s (arrives b o) (arrives c p) = beside_one rs law u v h m w l s b c
+  mate_one u v h m w l s (arrives b o) (crosses c j q) = absurd (o.1 _ (joined_move (beside_one rs law u v h m _ l s b c) j))
+  mate_one u v h m w l s (crosses b j q) (arrives c p) = absurd (p.1 _ (joined_move (beside_one rs law u v h w _ l s c b) j))
   mate_one u v h m w l s (crosses b j q) (crosses c i r) =
-      let e = beside-one rs law u v h _ _ l s b c in
-      let f = law.no_three_lem _ _ _ j (joined_move e i) in
+      let e = beside_one rs law u v h _ _ l s b c in
+      let f = law.no_three _ _ _ j (joined_move e i) in
       mate_one u v _ m w j.there (spans_across rs u v _ _ j (spans_beside rs u v h _ s.2 b)) q (subst (λ (z : ℕ). Mate rs u v z w) (sym f) r)
 
   pub mated_spans : (h e m d : ℕ) → OnSkin rs h → (w : Mated rs h e m d) → Spans (reads rs h) w.from w.to

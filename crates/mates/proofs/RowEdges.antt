@@ -39,13 +39,13 @@ by_test P {F} {b} {m} {n} t f g =
 module _ (x : List ℕ) (d : Distinct x) where
   pub face_apart : (i : ℕ) → i < 4 → Apart (face x i)
   face_apart = by_four (λ (i : ℕ). Apart (face x i))
-      (not-one 1 2 (omega arith) (omega arith) (λ e. omega arith), not-one 2 3 (omega arith) (omega arith) (λ e. omega arith), not-one 1 3 (omega arith) (omega arith) (λ e. omega arith))
-      (not-one 2 0 (omega arith) (omega arith) (λ e. omega arith), not-one 0 3 (omega arith) (omega arith) (λ e. omega arith), not-one 2 3 (omega arith) (omega arith) (λ e. omega arith))
-      (not-one 3 0 (omega arith) (omega arith) (λ e. omega arith), not-one 0 1 (omega arith) (omega arith) (λ e. omega arith), not-one 3 1 (omega arith) (omega arith) (λ e. omega arith))
-      (not-one 0 2 (omega arith) (omega arith) (λ e. omega arith), not-one 2 1 (omega arith) (omega arith) (λ e. omega arith), not-one 0 1 (omega arith) (omega arith) (λ e. omega arith))
+      (not_one 1 2 (omega arith) (omega arith) (λ e. omega arith), not_one 2 3 (omega arith) (omega arith) (λ e. omega arith), not_one 1 3 (omega arith) (omega arith) (λ e. omega arith))
+      (not_one 2 0 (omega arith) (omega arith) (λ e. omega arith), not_one 0 3 (omega arith) (omega arith) (λ e. omega arith), not_one 2 3 (omega arith) (omega arith) (λ e. omega arith))
+      (not_one 3 0 (omega arith) (omega arith) (λ e. omega arith), not_one 0 1 (omega arith) (omega arith) (λ e. omega arith), not_one 3 1 (omega arith) (omega arith) (λ e. omega arith))
+      (not_one 0 2 (omega arith) (omega arith) (λ e. omega arith), not_one 2 1 (omega arith) (omega arith) (λ e. omega arith), not_one 0 1 (omega arith) (omega arith) (λ e. omega arith))
     where
-      not-one : (a b : ℕ) → a < 4 → b < 4 → (a ≡ b → ⊥) → corner x a ≡ corner x b → ⊥
-      not-one a b l k n e = n (d a b l k e)
+      not_one : (a b : ℕ) → a < 4 → b < 4 → (a ≡ b → ⊥) → corner x a ≡ corner x b → ⊥
+      not_one a b l k n e = n (d a b l k e)
 
   -- three half-faces of a row never share two vertices
   pub no_third : (u v i j k : ℕ) → i < 4 → j < 4 → k < 4 → (i ≡ j → ⊥) → (i ≡ k → ⊥) → (j ≡ k → ⊥)
@@ -68,8 +68,8 @@ module _ (x : List ℕ) (d : Distinct x) where
 
   module _ (i u v : ℕ) (l : i < 4) (s : Spans (face x i) u v) where
     -- the half-face without a free corner has u and v
-    pub across-free : (j : ℕ) → j < 4 → Free x i u v j → Across x i u v j
-    across-free j k f =
+    pub across_free : (j : ℕ) → j < 4 → Free x i u v j → Across x i u v j
+    across_free j k f =
         let a = on_at x u i l s.0 in
         let b = on_at x v i l s.1 in
         record {
@@ -82,8 +82,8 @@ module _ (x : List ℕ) (d : Distinct x) where
           );
         }
 
-    free-at : (k : ℕ) → k < 4 → (k ≡ i → ⊥) → (k ≡ (on_at x u i l s.0).0 → ⊥) → (k ≡ (on_at x v i l s.1).0 → ⊥) → Free x i u v k
-    free-at k lk n p q =
+    free_at : (k : ℕ) → k < 4 → (k ≡ i → ⊥) → (k ≡ (on_at x u i l s.0).0 → ⊥) → (k ≡ (on_at x v i l s.1).0 → ⊥) → Free x i u v k
+    free_at k lk n p q =
         let a = on_at x u i l s.0 in
         let b = on_at x v i l s.1 in
         (n, λ e. p (d k a.0 lk a.1 (e ∙ a.3)), λ e. q (d k b.0 lk b.1 (e ∙ b.3)))
@@ -92,25 +92,25 @@ module _ (x : List ℕ) (d : Distinct x) where
     taken_at k lk f =
         ⊎_elim (λ e. inl e)
         (λ n. inr (⊎_elim (λ e. inl e)
-        (λ p. ⊎_elim (λ e. inr e) (λ q. absurd (f (free-at k lk n p q))) (cases_eq k (on_at x v i l s.1).0))
+        (λ p. ⊎_elim (λ e. inr e) (λ q. absurd (f (free_at k lk n p q))) (cases_eq k (on_at x v i l s.1).0))
         (cases_eq k (on_at x u i l s.0).0)))
         (cases_eq k i)
 
     -- of the four corners one is free
-    pub across-last : (Free x i u v 0 → ⊥) → (Free x i u v 1 → ⊥) → (Free x i u v 2 → ⊥) → Across x i u v 3
-    across-last f0 f1 f2 =
+    pub across_last : (Free x i u v 0 → ⊥) → (Free x i u v 1 → ⊥) → (Free x i u v 2 → ⊥) → Across x i u v 3
+    across_last f0 f1 f2 =
         let a = on_at x u i l s.0 in
         let b = on_at x v i l s.1 in
         let w = last i a.0 b.0 a.2 b.2 (λ e. s.2 (a.3 ∙ ap (corner x) e ∙ sym b.3))
         (taken_at 0 (omega arith) f0) (taken_at 1 (omega arith) f1) (taken_at 2 (omega arith) f2) in
-        across-free 3 (omega arith) (free-at 3 (omega arith) w.0 w.1 w.2)
+        across_free 3 (omega arith) (free_at 3 (omega arith) w.0 w.1 w.2)
       where
         last : (i a b : ℕ) → (a ≡ i → ⊥) → (b ≡ i → ⊥) → (a ≡ b → ⊥) → (0 ≡ i) ⊎ ((0 ≡ a) ⊎ (0 ≡ b)) → (1 ≡ i) ⊎ ((1 ≡ a) ⊎ (1 ≡ b)) → (2 ≡ i) ⊎ ((2 ≡ a) ⊎ (2 ≡ b)) → (3 ≡ i → ⊥) × (3 ≡ a → ⊥) × (3 ≡ b → ⊥)
         last i a b p q r x y z = (λ e. omega arith, λ e. omega arith, λ e. omega arith)
 
-    pub across-of : Across x i u v (across_of x i u v)
-    across-of =
-        by_test (Across x i u v) (decides_free x i u v 0) (across-free 0 (omega arith))
-        (λ n0. by_test (Across x i u v) (decides_free x i u v 1) (across-free 1 (omega arith))
-        (λ n1. by_test (Across x i u v) (decides_free x i u v 2) (across-free 2 (omega arith))
-        (λ n2. across-last n0 n1 n2)))
+    pub across_of_lem : Across x i u v (across_of x i u v)
+    across_of_lem =
+        by_test (Across x i u v) (decides_free x i u v 0) (across_free 0 (omega arith))
+        (λ n0. by_test (Across x i u v) (decides_free x i u v 1) (across_free 1 (omega arith))
+        (λ n1. by_test (Across x i u v) (decides_free x i u v 2) (across_free 2 (omega arith))
+        (λ n2. across_last n0 n1 n2)))

@@ -13,7 +13,7 @@ use Rattle.rules.proofs.Opposites.{joined_sym}
 use Rattle.rules.proofs.Told.{vertices_corner}
 use Rattle.mates.specs.Edges.{Apart, Spans, Across}
 use Rattle.mates.proofs.EdgePlaces.{edge_on, on_edge}
-use Rattle.mates.proofs.RowEdges.{face_apart, no_third, across_of, across-of}
+use Rattle.mates.proofs.RowEdges.{face_apart, no_third, across_of, across_of_lem}
 
 -- BESIDE AND ACROSS
 
@@ -76,14 +76,14 @@ module _ (rs : List (List ℕ)) (law : LawfulRows rs) where
 
   module _ (u v : ℕ) where
     -- the half-face beside h is there, and is one
-    pub beside-of : (h : ℕ) → Half rs h → Spans (reads rs h) u v → Beside rs u v h (beside_of rs u v h)
+    pub beside_of_lem : (h : ℕ) → Half rs h → Spans (reads rs h) u v → Beside rs u v h (beside_of rs u v h)
     unfolding beside_of
-    beside-of h l s =
+    beside_of_lem h l s =
         beside_across rs u v h (across_of (get_or rs (h / 4) []) (h % 4) u v)
-        (across-of (get_or rs (h / 4) []) (row_distinct h l) (h % 4) u v (omega arith) s)
+        (across_of_lem (get_or rs (h / 4) []) (row_distinct h l) (h % 4) u v (omega arith) s)
 
-    pub beside-one : (h g k : ℕ) → Half rs h → Spans (reads rs h) u v → Beside rs u v h g → Beside rs u v h k → g ≡ k
-    beside-one h g k l s b c =
+    pub beside_one : (h g k : ℕ) → Half rs h → Spans (reads rs h) u v → Beside rs u v h g → Beside rs u v h k → g ≡ k
+    beside_one h g k l s b c =
         ⊎_elim (λ e. e)
         (λ w.
         let p = b.cell in
@@ -111,26 +111,26 @@ Reach rs u v s (suc k) h = (y : ℕ) × Step rs u v y h × Reach rs u v s k y
 module _ (rs : List (List ℕ)) (law : LawfulRows rs) (u v : ℕ) where
   step_one : (x y h : ℕ) → Step rs u v x h → Step rs u v y h → x ≡ y
   step_one x y h a b =
-      let e : a.by ≡ b.by = law.no_three_lem h a.by b.by (joined_sym rs a.by h a.across) (joined_sym rs b.by h b.across) in
+      let e : a.by ≡ b.by = law.no_three h a.by b.by (joined_sym rs a.by h a.across) (joined_sym rs b.by h b.across) in
       let c = subst (λ (z : ℕ). Beside rs u v z y) (sym e) (beside_sym rs u v y b.by b.edge b.beside) in
-      beside-one rs law u v a.by x y a.across.half (spans_beside rs u v x a.by a.edge.2 a.beside) (beside_sym rs u v x a.by a.edge a.beside) c
+      beside_one rs law u v a.by x y a.across.half (spans_beside rs u v x a.by a.edge.2 a.beside) (beside_sym rs u v x a.by a.edge a.beside) c
 
   module _ (s : ℕ) (skin : OnSkin rs s) where
     never_back : (y : ℕ) → Step rs u v y s → ⊥
     never_back y a = skin.1 a.by (joined_sym rs a.by s a.across)
 
     -- from an open half-face no half-face is come to twice
-    reach-one : (j k h : ℕ) → Reach rs u v s j h → Reach rs u v s k h → j ≡ k
-    reach-one zero zero h p q = refl
-    reach-one zero (suc k) h p q = absurd (never_back q.0 (subst (λ (z : ℕ). Step rs u v q.0 z) p q.1))
-    reach-one (suc j) zero h p q = absurd (never_back p.0 (subst (λ (z : ℕ). Step rs u v p.0 z) q p.1))
-    reach-one (suc j) (suc k) h p q =
+    reach_one : (j k h : ℕ) → Reach rs u v s j h → Reach rs u v s k h → j ≡ k
+    reach_one zero zero h p q = refl
+    reach_one zero (suc k) h p q = absurd (never_back q.0 (subst (λ (z : ℕ). Step rs u v q.0 z) p q.1))
+    reach_one (suc j) zero h p q = absurd (never_back p.0 (subst (λ (z : ℕ). Step rs u v p.0 z) q p.1))
+    reach_one (suc j) (suc k) h p q =
         let e = step_one p.0 q.0 h p.1 q.1 in
-        ap suc (reach-one j k p.0 p.2 (subst (λ (z : ℕ). Reach rs u v s k z) (sym e) q.2))
+        ap suc (reach_one j k p.0 p.2 (subst (λ (z : ℕ). Reach rs u v s k z) (sym e) q.2))
 
-    reach-half : (k h : ℕ) → Reach rs u v s k h → Half rs h
-    reach-half zero h p = subst (λ (z : ℕ). Half rs z) (sym p) skin.0
-    reach-half (suc k) h p = p.1.across.there
+    reach_half : (k h : ℕ) → Reach rs u v s k h → Half rs h
+    reach_half zero h p = subst (λ (z : ℕ). Half rs z) (sym p) skin.0
+    reach_half (suc k) h p = p.1.across.there
 
     earlier : (k h : ℕ) → Reach rs u v s k h → (j : ℕ) → j ≤ k → (x : ℕ) × Reach rs u v s j x
     earlier zero h p j l = let e : 0 ≡ j = omega arith in (h, subst (λ (z : ℕ). Reach rs u v s z h) e p)
@@ -138,13 +138,13 @@ module _ (rs : List (List ℕ)) (law : LawfulRows rs) (u v : ℕ) where
         ⊎_elim (λ e. (h, subst (λ (z : ℕ). Reach rs u v s z h) (sym e) p)) (λ ne. earlier k p.0 p.2 j (omega arith)) (cases_eq j (suc k))
 
     -- so there are fewer steps than half-faces
-    pub steps-end : (k h : ℕ) → 4 * length rs ≤ k → Reach rs u v s k h → ⊥
-    steps-end k h l p =
+    pub steps_end : (k h : ℕ) → 4 * length rs ≤ k → Reach rs u v s k h → ⊥
+    steps_end k h l p =
         let at : (j : ℕ) → (x : ℕ) × Reach rs u v s (min j k) x = λ j. earlier k h p (min j k) (min-le_right j k) in
         crowded (4 * length rs) (λ j. (at j).0)
-        (λ j b. reach-half (min j k) (at j).0 (at j).1)
+        (λ j b. reach_half (min j k) (at j).0 (at j).1)
         (λ i j a b e.
-        let r = reach-one (min i k) (min j k) (at j).0 (subst (λ (z : ℕ). Reach rs u v s (min i k) z) e (at i).1) (at j).1 in
+        let r = reach_one (min i k) (min j k) (at j).0 (subst (λ (z : ℕ). Reach rs u v s (min i k) z) e (at i).1) (at j).1 in
         let i≤ : i ≤ k = omega arith in
         let j≤ : j ≤ k = omega arith in
         sym (min-eq_left i≤) ∙ r ∙ min-eq_left j≤)

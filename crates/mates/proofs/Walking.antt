@@ -8,7 +8,7 @@ use Rattle.rules.specs.Mates.Mate.{arrives, crosses}
 use Rattle.rules.proofs.Opposites.{opposite_joined, joined_opposite}
 use Rattle.rules.proofs.Webbed.{cases_option}
 use Rattle.mates.specs.Edges.{Spans}
-use Rattle.mates.proofs.Steps.{spans_beside, spans_across, half_beside, beside_of, beside-of, beside-one, Reach, steps-end}
+use Rattle.mates.proofs.Steps.{spans_beside, spans_across, half_beside, beside_of, beside_of_lem, beside_one, Reach, steps_end}
 
 -- after so many steps from s the walk stands at h
 pub record Walked (rs : List (List ℕ)) (u v s k h : ℕ) : Type 0 where
@@ -71,7 +71,7 @@ left_some rs u v k g o p = ap (crossed (λ o. left_at rs u v k (beside_of rs u v
 module _ (rs : List (List ℕ)) (law : LawfulRows rs) (u v s : ℕ) (skin : OnSkin rs s) where
   onward : (j x o : ℕ) → Walked rs u v s j x → opposite rs (beside_of rs u v x) ≡ Some o → Walked rs u v s (suc j) o
   onward j x o w p =
-      let b = beside-of rs law u v x w.half w.spans in
+      let b = beside_of_lem rs law u v x w.half w.spans in
       walked_more rs u v s j x (beside_of rs u v x) o w b (opposite_joined rs (beside_of rs u v x) o (half_beside rs u v x (beside_of rs u v x) w.half b) p)
 
   -- one time more allowed changes nothing, or k more steps can be made
@@ -95,7 +95,7 @@ module _ (rs : List (List ℕ)) (law : LawfulRows rs) (u v s : ℕ) (skin : OnSk
   falls_to k j x o e w p =
       ⊎_elim
       (λ q. omega (arith, left_some rs u v k (beside_of rs u v x) o p))
-      (λ q. absurd (steps-end rs law u v s skin (suc j + suc k) q.0 (omega arith) q.1))
+      (λ q. absurd (steps_end rs law u v s skin (suc j + suc k) q.0 (omega arith) q.1))
       (settles k (suc j) o (onward j x o w p))
 
   -- with each turn one crossing less is left
@@ -104,10 +104,10 @@ module _ (rs : List (List ℕ)) (law : LawfulRows rs) (u v s : ℕ) (skin : OnSk
       let w = t.walked in
       let l = w.half in
       let a = turning_across rs u v s g o t j in
-      let p : beside_of rs u v t.at ≡ g = beside-one rs law u v t.at (beside_of rs u v t.at) g w.half w.spans (beside-of rs law u v t.at w.half w.spans) t.beside in
-      let q : beside_of rs u v o ≡ n = beside-one rs law u v o (beside_of rs u v o) n a.0 a.1 (beside-of rs law u v o a.0 a.1) b in
+      let p : beside_of rs u v t.at ≡ g = beside_one rs law u v t.at (beside_of rs u v t.at) g w.half w.spans (beside_of_lem rs law u v t.at w.half w.spans) t.beside in
+      let q : beside_of rs u v o ≡ n = beside_one rs law u v o (beside_of rs u v o) n a.0 a.1 (beside_of_lem rs law u v o a.0 a.1) b in
       let e : 4 * length rs ≡ suc (4 * length rs - 1) = omega arith in
-      let f = falls_to (4 * length rs - 1) t.steps t.at o e w (ap (opposite rs) p ∙ joined_opposite rs law.no_three_lem g o j) in
+      let f = falls_to (4 * length rs - 1) t.steps t.at o e w (ap (opposite rs) p ∙ joined_opposite rs law.no_three g o j) in
       subst (λ (z : ℕ). left_at rs u v z n < left_at rs u v z g) (sym e)
       (subst (λ (z : ℕ). left_at rs u v (suc (4 * length rs - 1)) z < left_at rs u v (suc (4 * length rs - 1)) g) q
       (subst (λ (z : ℕ). left_at rs u v (suc (4 * length rs - 1)) (beside_of rs u v o) < left_at rs u v (suc (4 * length rs - 1)) z) p f))

@@ -36,12 +36,12 @@ module _ (p : Plain) (x : List ℕ) where
   first_equal a h = record { applies = equal h; none_before = below 2 (λ l. a) (λ l. absurd (omega arith)) (λ l. absurd (omega arith)) (λ l. absurd (omega arith)) (λ l. absurd (omega arith)) }
 
   module _ (a : TooHigh x → ⊥) (b : Repeated x → ⊥) where
-    pub first-full : p.places ≤ length p.list → First (LayCause p x) NoFreePlace
-    first-full h = record { applies = full h; none_before = below 11 (λ l. a) (λ l. b) (λ l. absurd (omega arith)) (λ l. absurd (omega arith)) (λ l. absurd (omega arith)) }
+    pub first_full : p.places ≤ length p.list → First (LayCause p x) NoFreePlace
+    first_full h = record { applies = full h; none_before = below 11 (λ l. a) (λ l. b) (λ l. absurd (omega arith)) (λ l. absurd (omega arith)) (λ l. absurd (omega arith)) }
 
     module _ (e : p.places ≤ length p.list → ⊥) where
-      pub first-present : StandsIn p.list x → First (LayCause p x) CellPresent
-      first-present h = record { applies = present h; none_before = below 12 (λ l. a) (λ l. b) (λ l. e) (λ l. absurd (omega arith)) (λ l. absurd (omega arith)) }
+      pub first_present : StandsIn p.list x → First (LayCause p x) CellPresent
+      first_present h = record { applies = present h; none_before = below 12 (λ l. a) (λ l. b) (λ l. e) (λ l. absurd (omega arith)) (λ l. absurd (omega arith)) }
 
       pub first_taken : (StandsIn p.list x → ⊥) → CrowdedIn p.list x → First (LayCause p x) TriangleTaken
       first_taken f h = record { applies = taken h; none_before = below 13 (λ l. a) (λ l. b) (λ l. e) (λ l. f) (λ l. absurd (omega arith)) }
@@ -87,16 +87,16 @@ module _ (rs : List (List ℕ)) (v n : ℕ) where
       before _ l (star-short m k) = omega arith
 
   module _ (ks : List ℕ) (low : v ≤ 4095) (a : Listing (AtVertex rs v) ks) where
-    pub star-first-short : n < length ks → First (StarCause rs v n) ListTooShort
-    star-first-short q = record { applies = star-short (ks, a, refl) q; none_before = before }
+    pub star_first_short : n < length ks → First (StarCause rs v n) ListTooShort
+    star_first_short q = record { applies = star-short (ks, a, refl) q; none_before = before }
       where
         before : (d : Refusal) → number_of d < 3 → StarCause rs v n d → ⊥
         before _ l (star-high k) = omega arith
         before _ l (star-short m k) = omega arith
 
-    pub no-star-cause : length ks ≤ n → NoCause (StarCause rs v n)
-    no-star-cause l _ (star-high k) = omega arith
-    no-star-cause l _ (star-short m k) = too_many (AtVertex rs v) n _ ks a l m k
+    pub no_star_cause : length ks ≤ n → NoCause (StarCause rs v n)
+    no_star_cause l _ (star-high k) = omega arith
+    no_star_cause l _ (star-short m k) = too_many (AtVertex rs v) n _ ks a l m k
 
 module _ (rs : List (List ℕ)) (v w n : ℕ) where
   edge_below : (m : ℕ) → (1 < m → 4095 < v → ⊥) → (1 < m → 4095 < w → ⊥) → (2 < m → v ≡ w → ⊥) → m ≤ 3 → (d : Refusal) → number_of d < m → EdgeStarCause rs v w n d → ⊥
@@ -112,18 +112,18 @@ module _ (rs : List (List ℕ)) (v w n : ℕ) where
   edge_first_high_other h = record { applies = edge-high-other h; none_before = edge_below 1 (λ l. absurd (omega arith)) (λ l. absurd (omega arith)) (λ l. absurd (omega arith)) (omega arith) }
 
   module _ (low : v ≤ 4095) (low-other : w ≤ 4095) where
-    pub edge-first-equal : v ≡ w → First (EdgeStarCause rs v w n) VerticesEqual
-    edge-first-equal h = record { applies = edge-equal h; none_before = edge_below 2 (λ l k. omega arith) (λ l k. omega arith) (λ l. absurd (omega arith)) (omega arith) }
+    pub edge_first_equal : v ≡ w → First (EdgeStarCause rs v w n) VerticesEqual
+    edge_first_equal h = record { applies = edge-equal h; none_before = edge_below 2 (λ l k. omega arith) (λ l k. omega arith) (λ l. absurd (omega arith)) (omega arith) }
 
     module _ (ks : List ℕ) (ne : v ≡ w → ⊥) (a : Listing (AtEdge rs v w) ks) where
-      pub edge-first-short : n < length ks → First (EdgeStarCause rs v w n) ListTooShort
-      edge-first-short q = record { applies = edge-short (ks, a, refl) q; none_before = edge_below 3 (λ l k. omega arith) (λ l k. omega arith) (λ l. ne) (omega arith) }
+      pub edge_first_short : n < length ks → First (EdgeStarCause rs v w n) ListTooShort
+      edge_first_short q = record { applies = edge-short (ks, a, refl) q; none_before = edge_below 3 (λ l k. omega arith) (λ l k. omega arith) (λ l. ne) (omega arith) }
 
-      pub no-edge-cause : length ks ≤ n → NoCause (EdgeStarCause rs v w n)
-      no-edge-cause l _ (edge-high k) = omega arith
-      no-edge-cause l _ (edge-high-other k) = omega arith
-      no-edge-cause l _ (edge-equal k) = ne k
-      no-edge-cause l _ (edge-short m k) = too_many (AtEdge rs v w) n _ ks a l m k
+      pub no_edge_cause : length ks ≤ n → NoCause (EdgeStarCause rs v w n)
+      no_edge_cause l _ (edge-high k) = omega arith
+      no_edge_cause l _ (edge-high-other k) = omega arith
+      no_edge_cause l _ (edge-equal k) = ne k
+      no_edge_cause l _ (edge-short m k) = too_many (AtEdge rs v w) n _ ks a l m k
 
 module _ (rs : List (List ℕ)) (n : ℕ) (ks : List ℕ) (a : Listing (OnSkin rs) ks) where
   pub skin_first_short : n < length ks → First (SkinCause rs n) ListTooShort

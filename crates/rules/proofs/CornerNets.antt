@@ -216,8 +216,8 @@ module _ (rs : List (List ℕ)) (d : AllDiffer rs) where
     step_at_lem : (i s : ℕ) (p : Place) → JoinedSides rs i s p → cell_steps rs 123 (crossing rs) i s ≡ crossing rs (4 * i + s) (4 * p.item + p.side)
     step_at_lem i s p j = steps_in rs 123 (crossing rs) i s j.item j.side ∙ ap (stepped 123 (crossing rs) (4 * i + s)) (joined_opposite rs n (4 * i + s) (4 * p.item + p.side) j.joined)
 
-    pub corner-web-is : CornerWeb rs (corner_web rs)
-    corner-web-is = record {
+    pub corner_web_is : CornerWeb rs (corner_web rs)
+    corner_web_is = record {
       cells = cell_web_is rs n 123 (crossing rs);
       across = λ i s p j. subst (CornerStep (get_or rs i []) s (get_or rs p.item []) p.side) (sym (step_at_lem i s p j)) (crossing_sides rs d i s p j);
       still = still_none rs;

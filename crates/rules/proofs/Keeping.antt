@@ -25,7 +25,7 @@ lawful_none = record {
   low = λ t l. absurd (omega arith);
   differ = λ t l. absurd (omega arith);
   apart = λ t u l k. absurd (omega arith);
-  no_three_lem = λ h g k j. absurd (let l = j.half in omega arith);
+  no_three = λ h g k j. absurd (let l = j.half in omega arith);
 }
 
 -- THE SAME VERTICES
@@ -90,7 +90,7 @@ module _ (old new : List (List ℕ)) (f : ℕ → ℕ)
         let a : t < length new = omega arith in
         apart_any old l (f t) (f u) (within t a) (within u b) (λ e. let z = one t u a b e in omega arith)
         (subst (λ (x : List ℕ). SameVertices x (get_or old (f u) [])) (row t a) (subst (SameVertices (get_or new t [])) (row u b) s));
-    no_three_lem = λ h g k a b. was_one g k a.there b.there (l.no_three_lem (was h) (was g) (was k) (joined_was h g a) (joined_was h k b));
+    no_three = λ h g k a b. was_one g k a.there b.there (l.no_three (was h) (was g) (was k) (joined_was h g a) (joined_was h k b));
   }
 
 -- LIFT
@@ -191,7 +191,7 @@ module _ (xs : List Turn) (rs : List (List ℕ)) (l : LawfulRows rs) where
   vertices_kept t k = subst (λ (x : List ℕ). SameVertices x (get_or rs t [])) (sym (row_at xs rs t (within t k))) (if_vertices (get_or xs t Straight) (get_or rs t []))
 
   opposite_is : (h g : ℕ) → Joined (turned_by xs rs) h g → opposite (turned_by xs rs) h ≡ Some g
-  opposite_is = opposite_after rs (opposite rs) (rows_exact rs l.no_three_lem) (differ_of rs l.differ) xs
+  opposite_is = opposite_after rs (opposite rs) (rows_exact rs l.no_three) (differ_of rs l.differ) xs
 
   pub lawful_turned_by : LawfulRows (turned_by xs rs)
   lawful_turned_by = record {
@@ -200,7 +200,7 @@ module _ (xs : List Turn) (rs : List (List ℕ)) (l : LawfulRows rs) where
     apart = λ t u k b s. l.apart t u k (within u b)
         (vertices_trans (get_or rs t []) (get_or (turned_by xs rs) t []) (get_or rs u []) (vertices_sym (get_or (turned_by xs rs) t []) (get_or rs t []) (vertices_kept t (omega arith)))
         (vertices_trans (get_or (turned_by xs rs) t []) (get_or (turned_by xs rs) u []) (get_or rs u []) s (vertices_kept u b)));
-    no_three_lem = λ h g k a b. some_eq g k (sym (opposite_is h g a) ∙ opposite_is h k b);
+    no_three = λ h g k a b. some_eq g k (sym (opposite_is h g a) ∙ opposite_is h k b);
   }
 
 -- the labels that turn row t alone
@@ -313,7 +313,7 @@ module _ (rs : List (List ℕ)) (x : List ℕ) (l : LawfulRows rs) (low : TooHig
       ⊎_elim
       (λ oh. ⊎_elim
       (λ og. ⊎_elim
-      (λ ok. l.no_three_lem h g k (joined_old h g oh og a) (joined_old h k oh ok b))
+      (λ ok. l.no_three h g k (joined_old h g oh og a) (joined_old h k oh ok b))
       (λ nk. absurd (no_crowd k h g nk (joined_sym longer h k b) (joined_sym longer g k c) a))
       (cases_lt (k / 4) (length rs)))
       (λ ng. absurd (no_crowd g h k ng (joined_sym longer h g a) c b))
@@ -323,7 +323,7 @@ module _ (rs : List (List ℕ)) (x : List ℕ) (l : LawfulRows rs) (low : TooHig
       (cases_eq g k)
 
   lawful_longer : LawfulRows longer
-  lawful_longer = record { low = each (λ y. TooHigh y → ⊥) l.low low; differ = differ_all; apart = apart_all; no_three_lem = no_three_all }
+  lawful_longer = record { low = each (λ y. TooHigh y → ⊥) l.low low; differ = differ_all; apart = apart_all; no_three = no_three_all }
 
 pub lawful_laid : (p : Plain) (x : List ℕ) → LawfulRows p.list → NoCause (LayCause p x) → LawfulRows (laid p x).list
 lawful_laid p x l n = lawful_longer p.list x l (λ h. n VertexTooHigh (high h)) (λ h. n VerticesEqual (equal h)) (λ h. n CellPresent (present h)) (λ h. n TriangleTaken (taken h))

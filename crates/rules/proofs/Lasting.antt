@@ -12,7 +12,7 @@ use Rattle.rules.specs.PlainList.RowCause.{absent}
 use Rattle.rules.specs.Nets.{AllOpposed, TurnsMeant}
 use Rattle.rules.specs.Orients.{Orients, RefusedExactly}
 use Rattle.rules.proofs.Keeping.{lawful_laid, lawful_lifted, opposed_lifted, lawful_turned, lawful_turned_by}
-use Rattle.rules.proofs.Orienting.{refused-exactly, opposed-after}
+use Rattle.rules.proofs.Orienting.{refused_exactly, opposed_after}
 use Rattle.rules.proofs.TurnNets.{turns_meant}
 
 -- LAY, LIFT, TURN
@@ -55,13 +55,13 @@ module _ (p : Plain) (xs : List Turn) (ms : List ℕ) where
   orients_lawful (Err c) q xs' ms' o l = subst Lawful (sym o.1.stands) l
 
   pub orients_opposed : (n : ℕ) (q : Plain) (xs' : List Turn) (ms' : List ℕ) → Orients p xs ms (Ok n) q xs' ms' → LawfulRows p.list → AllOpposed q.list
-  orients_opposed n q xs' ms' o l = opposed-after p xs ms l.differ l.no_three_lem (Ok n) q xs' ms' o
+  orients_opposed n q xs' ms' o l = opposed_after p xs ms l.differ l.no_three (Ok n) q xs' ms' o
 
   pub orients_refused : (c : Refusal) (q : Plain) (xs' : List Turn) (ms' : List ℕ) → Orients p xs ms (Err c) q xs' ms' → q ≡ p
   orients_refused c q xs' ms' o = o.1.stands
 
   pub orients_exactly : (r : Result ℕ Refusal) (q : Plain) (xs' : List Turn) (ms' : List ℕ) → Orients p xs ms r q xs' ms' → LawfulRows p.list → RefusedExactly p xs ms r
-  orients_exactly r q xs' ms' o l = refused-exactly p xs ms l.differ l.no_three_lem r q xs' ms' o
+  orients_exactly r q xs' ms' o l = refused_exactly p xs ms l.differ l.no_three r q xs' ms' o
 
 pub lawful_meant : (rs : List (List ℕ)) → LawfulRows rs → TurnsMeant rs
-lawful_meant rs l = turns_meant rs l.differ l.no_three_lem
+lawful_meant rs l = turns_meant rs l.differ l.no_three

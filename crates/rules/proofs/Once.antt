@@ -43,19 +43,19 @@ module _ (Applies : Refusal → Type 0) where
       (cases_lt (number_of c) (number_of d)))
 
   module _ {A P : Type 0} (Right : A → P → Type 0) (p : P) (one : (a b : A) (q q' : P) → Right a q → Right b q' → (a ≡ b) × (q ≡ q')) where
-    pub outcome-once : (r r' : Result A Refusal) (q q' : P) → Outcome Applies Right p r q → Outcome Applies Right p r' q' → (r ≡ r') × (q ≡ q')
-    outcome-once (Ok a) (Ok b) q q' o u = let e = one a b q q' o.1 u.1 in (ap Ok e.0, e.1)
-    outcome-once (Ok a) (Err d) q q' o u = absurd (o.0 d u.0.applies)
-    outcome-once (Err c) (Ok b) q q' o u = absurd (u.0 c o.0.applies)
-    outcome-once (Err c) (Err d) q q' o u = (ap Err (first_one c d o.0 u.0), o.1 ∙ sym u.1)
+    pub outcome_once : (r r' : Result A Refusal) (q q' : P) → Outcome Applies Right p r q → Outcome Applies Right p r' q' → (r ≡ r') × (q ≡ q')
+    outcome_once (Ok a) (Ok b) q q' o u = let e = one a b q q' o.1 u.1 in (ap Ok e.0, e.1)
+    outcome_once (Ok a) (Err d) q q' o u = absurd (o.0 d u.0.applies)
+    outcome_once (Err c) (Ok b) q q' o u = absurd (u.0 c o.0.applies)
+    outcome_once (Err c) (Err d) q q' o u = (ap Err (first_one c d o.0 u.0), o.1 ∙ sym u.1)
 
 -- THE CALLS
 
 pub lays_once : (p : Plain) (x : List ℕ) (r r' : Result ℕ Refusal) (q q' : Plain) → Lays p x r q → Lays p x r' q' → (r ≡ r') × (q ≡ q')
-lays_once p x = outcome-once (LayCause p x) _ p (λ a b q q' m n. (m.0 ∙ sym n.0, m.1 ∙ sym n.1))
+lays_once p x = outcome_once (LayCause p x) _ p (λ a b q q' m n. (m.0 ∙ sym n.0, m.1 ∙ sym n.1))
 
 pub lifts_once : (p : Plain) (t : ℕ) (r r' : Result (Unit {0}) Refusal) (q q' : Plain) → Lifts p t r q → Lifts p t r' q' → (r ≡ r') × (q ≡ q')
-lifts_once p t = outcome-once (RowCause p t) _ p (λ a b q q' m n. (refl, m ∙ sym n))
+lifts_once p t = outcome_once (RowCause p t) _ p (λ a b q q' m n. (refl, m ∙ sym n))
 
 pub turns_once : (p : Plain) (t : ℕ) (r r' : Result (Unit {0}) Refusal) (q q' : Plain) → Turns p t r q → Turns p t r' q' → (r ≡ r') × (q ≡ q')
-turns_once p t = outcome-once (RowCause p t) _ p (λ a b q q' m n. (refl, m ∙ sym n))
+turns_once p t = outcome_once (RowCause p t) _ p (λ a b q q' m n. (refl, m ∙ sym n))

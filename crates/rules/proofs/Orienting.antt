@@ -62,15 +62,15 @@ module _ (p : Plain) (xs : List Turn) (ms : List ℕ) where
   }
 
   module _ (d : AllDiffer p.list) (n : NoThree p.list) where
-    pub opposed-after : (r : Result ℕ Refusal) (q : Plain) (xs' : List Turn) (ms' : List ℕ) → Orients p xs ms r q xs' ms' → OpposedAfter r q
-    opposed-after (Ok m) q xs' ms' o =
+    pub opposed_after : (r : Result ℕ Refusal) (q : Plain) (xs' : List Turn) (ms' : List ℕ) → Orients p xs ms r q xs' ms' → OpposedAfter r q
+    opposed_after (Ok m) q xs' ms' o =
         let l = o.1.labels in
         subst (λ (z : Plain). AllOpposed z.list) (sym o.1.list) (agree_opposed p.list d n xs' (l.0, l.2, l.3.agrees))
-    opposed-after (Err c) q xs' ms' o = tt
+    opposed_after (Err c) q xs' ms' o = tt
 
     -- no choice works exactly when no labels agree
-    no-choice : OrientCause p xs ms NoLabelsAgree → NoChoice p.list
-    no-choice (none_agree f) ys e o = f ys (omega arith) (opposed_agree p.list d n ys o)
+    no_choice : OrientCause p xs ms NoLabelsAgree → NoChoice p.list
+    no_choice (none_agree f) ys e o = f ys (omega arith) (opposed_agree p.list d n ys o)
 
     none_agrees : NoChoice p.list → OrientCause p xs ms NoLabelsAgree
     none_agrees never = none_agree (λ ys l a.
@@ -82,15 +82,15 @@ module _ (p : Plain) (xs : List Turn) (ms : List ℕ) where
     is_none _ (few_marks k) l m = absurd (omega arith)
     is_none _ (none_agree f) l m = refl
 
-    pub refused-exactly : (r : Result ℕ Refusal) (q : Plain) (xs' : List Turn) (ms' : List ℕ) → Orients p xs ms r q xs' ms' → RefusedExactly p xs ms r
-    refused-exactly (Ok m) q xs' ms' o = (
+    pub refused_exactly : (r : Result ℕ Refusal) (q : Plain) (xs' : List Turn) (ms' : List ℕ) → Orients p xs ms r q xs' ms' → RefusedExactly p xs ms r
+    refused_exactly (Ok m) q xs' ms' o = (
       (λ e. absurd (let z : ◌≡◌ {A = ℕ} 0 1 = cc in omega arith)),
       (λ a. absurd (o.0 NoLabelsAgree (none_agrees a.2))),
     )
-    refused-exactly (Err c) q xs' ms' o = (
+    refused_exactly (Err c) q xs' ms' o = (
       (λ e. let z : c ≡ NoLabelsAgree = cc in
           let f = subst (First (OrientCause p xs ms)) z o.0 in
-          (long_labels (f.none_before ListTooShort (omega arith)), long_marks (f.none_before ListTooShort (omega arith)), no-choice f.applies)),
+          (long_labels (f.none_before ListTooShort (omega arith)), long_marks (f.none_before ListTooShort (omega arith)), no_choice f.applies)),
       (λ a. ap Err (is_none c o.0.applies a.0 a.1)),
     )
 

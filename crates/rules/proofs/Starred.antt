@@ -126,25 +126,25 @@ module _ (rs : List (List ℕ)) (v w : ℕ) where
   never_refused xs ms l k _ (none_agree q) = q (replicate (length rs) Straight) (let z = length-replicate (length rs) Straight in omega arith) (plain_agree (length rs))
 
   module _ (n : NoThree rs) where
-    crossing-from : (i s : ℕ) (p : Place) → star_joins rs v w i s ≡ Some p → JoinedSides rs i s p × Holds rs v w (4 * i + s)
-    crossing-from i s p e = let f = star_from i s p e in (((cell_web_is rs n 0 (turning rs)).joins i s p).0 f.1, holds_so rs v w (4 * i + s) f.0)
+    crossing_from : (i s : ℕ) (p : Place) → star_joins rs v w i s ≡ Some p → JoinedSides rs i s p × Holds rs v w (4 * i + s)
+    crossing_from i s p e = let f = star_from i s p e in (((cell_web_is rs n 0 (turning rs)).joins i s p).0 f.1, holds_so rs v w (4 * i + s) f.0)
 
-    crossing-to : (i s : ℕ) (p : Place) → JoinedSides rs i s p → Holds rs v w (4 * i + s) → star_joins rs v w i s ≡ Some p
-    crossing-to i s p j h = star_to i s p (holds_to rs v w (4 * i + s) h) (((cell_web_is rs n 0 (turning rs)).joins i s p).1 j)
+    crossing_to : (i s : ℕ) (p : Place) → JoinedSides rs i s p → Holds rs v w (4 * i + s) → star_joins rs v w i s ≡ Some p
+    crossing_to i s p j h = star_to i s p (holds_to rs v w (4 * i + s) h) (((cell_web_is rs n 0 (turning rs)).joins i s p).1 j)
 
-    pub star-sound : length rs ≤ 1024 → Sound (star_web rs v w) turn_kind
-    star-sound few = record {
+    pub star_sound : length rs ≤ 1024 → Sound (star_web rs v w) turn_kind
+    star_sound few = record {
       few_items = omega arith;
       some_side = omega arith;
       few_sides = omega arith;
-      inside = λ i s p e. let j = (crossing-from i s p e).0 in (j.item, j.side);
-      within = λ i s p e. let j = (crossing-from i s p e).0 in let l = j.joined.there in let k = j.entered in (omega arith, k);
+      inside = λ i s p e. let j = (crossing_from i s p e).0 in (j.item, j.side);
+      within = λ i s p e. let j = (crossing_from i s p e).0 in let l = j.joined.there in let k = j.entered in (omega arith, k);
       back = λ i s p e.
-          let c = crossing-from i s p e in
+          let c = crossing_from i s p e in
           let j = c.0 in
           let l = j.joined.there in
           let k = j.entered in
-          crossing-to p.item p.side (record { item = i; side = s })
+          crossing_to p.item p.side (record { item = i; side = s })
           (record { item = omega arith; side = k; entered = j.side; joined = joined_sym rs (4 * i + s) (4 * p.item + p.side) j.joined })
           (holds_across rs v w (4 * i + s) (4 * p.item + p.side) j.joined c.1);
       still = λ i s q. refl;
@@ -153,7 +153,7 @@ module _ (rs : List (List ℕ)) (v w : ℕ) where
     -- both ends of a crossing are in the star
     ends : (i s : ℕ) (p : Place) → star_joins rs v w i s ≡ Some p → AtEdge rs v w i × AtEdge rs v w p.item
     ends i s p e =
-        let c = crossing-from i s p e in
+        let c = crossing_from i s p e in
         let j = c.0 in
         let k = j.side in
         let m = j.entered in
@@ -164,17 +164,17 @@ module _ (rs : List (List ℕ)) (v w : ℕ) where
         )
 
     -- a way stays where it is, or goes from the star to the star
-    within-star : {i j : ℕ} → Reach (star_web rs v w) i j → (i ≡ j) ⊎ (AtEdge rs v w i × AtEdge rs v w j)
-    within-star here = inl refl
-    within-star (on {j = j} {s = s} {p = p} r q) =
+    within_star : {i j : ℕ} → Reach (star_web rs v w) i j → (i ≡ j) ⊎ (AtEdge rs v w i × AtEdge rs v w j)
+    within_star here = inl refl
+    within_star (on {j = j} {s = s} {p = p} r q) =
         let x = ends j s p q in
-        ⊎_elim (λ z. inr (subst (AtEdge rs v w) (sym z) x.0, x.1)) (λ b. inr (b.0, x.1)) (within-star r)
+        ⊎_elim (λ z. inr (subst (AtEdge rs v w) (sym z) x.0, x.1)) (λ b. inr (b.0, x.1)) (within_star r)
 
     -- ways over the net are crossings
     leads : {i j : ℕ} → Reach (star_web rs v w) i j → Leads rs v w i j
     leads here = stays
     leads {i = i} (on {j = j} {s = s} {p = p} r q) =
-        let c = crossing-from j s p q in
+        let c = crossing_from j s p q in
         let k = c.0.side in
         let m = c.0.entered in
         let a : (4 * j + s) / 4 ≡ j = omega arith in
@@ -188,13 +188,13 @@ module _ (rs : List (List ℕ)) (v w : ℕ) where
         let y : 4 * (g / 4) + g % 4 ≡ g = omega arith in
         let l = j.half in
         let p : Place = record { item = g / 4; side = g % 4 } in
-        on (reaches r) (crossing-to (h / 4) (h % 4) p
+        on (reaches r) (crossing_to (h / 4) (h % 4) p
         (record { item = omega arith; side = omega arith; entered = omega arith; joined = subst (λ (k : ℕ). Joined rs k (4 * (g / 4) + g % 4)) (sym z) (subst (λ (k : ℕ). Joined rs h k) (sym y) j) })
         (subst (Holds rs v w) (sym z) b))
 
     -- a cell outside the star is a piece of its own
     alone : (i : ℕ) → i < length rs → (AtEdge rs v w i → ⊥) → FirstItem (star_web rs v w) i
-    alone i l o = (l, λ j r. ⊎_elim (λ z. omega arith) (λ b. absurd (o b.0)) (within-star r))
+    alone i l o = (l, λ j r. ⊎_elim (λ z. omega arith) (λ b. absurd (o b.0)) (within_star r))
 
     -- the first cell of each piece in the star
     abbrev Head : ℕ → Type 0
@@ -210,19 +210,19 @@ module _ (rs : List (List ℕ)) (v w : ℕ) where
 
     module _ (few : length rs ≤ 1024) (ms : List ℕ) (p c : ℕ) (acc : Agreeing (star_web rs v w) turn_kind turn_meaning ms p) (cells : Counts (AtEdge rs v w) (length rs) c) where
       -- one piece in the star: its cells reach one another
-      pub linked-few : p + c ≤ length rs + 1 → Linked rs v w
-      linked-few few1 s t xs xt =
+      pub linked_few : p + c ≤ length rs + 1 → Linked rs v w
+      linked_few few1 s t xs xt =
           let h = heads (length rs) p c (omega arith) acc.counted cells in
           let q = h.2 in
           let fs = acc.pieced s xs.0 in
           let ft = acc.pieced t xt.0 in
-          let hs : AtEdge rs v w fs.0 = ⊎_elim (λ z. subst (AtEdge rs v w) (sym z) xs) (λ b. b.0) (within-star fs.2) in
-          let ht : AtEdge rs v w ft.0 = ⊎_elim (λ z. subst (AtEdge rs v w) (sym z) xt) (λ b. b.0) (within-star ft.2) in
+          let hs : AtEdge rs v w fs.0 = ⊎_elim (λ z. subst (AtEdge rs v w) (sym z) xs) (λ b. b.0) (within_star fs.2) in
+          let ht : AtEdge rs v w ft.0 = ⊎_elim (λ z. subst (AtEdge rs v w) (sym z) xt) (λ b. b.0) (within_star ft.2) in
           let z : fs.0 ≡ ft.0 = counted_one h.1 (omega arith) fs.0 ft.0 fs.1.0 ft.1.0 (hs, fs.1) (ht, ft.1) in
-          leads (reach_on (subst (λ (k : ℕ). Reach (star_web rs v w) s k) z (reach_back (star-sound few) fs.2)) ft.2)
+          leads (reach_on (subst (λ (k : ℕ). Reach (star_web rs v w) s k) z (reach_back (star_sound few) fs.2)) ft.2)
 
-      pub few-linked : Linked rs v w → p + c ≤ length rs + 1
-      few-linked k =
+      pub few_linked : Linked rs v w → p + c ≤ length rs + 1
+      few_linked k =
           let h = heads (length rs) p c (omega arith) acc.counted cells in
           let q = h.2 in
           let d : h.0 ≤ 1 = one_counted h.1 (λ a b la lb x y.

@@ -37,4 +37,4 @@ pub record LawfulRows (rs : List (List ℕ)) : Type 0 where
   pub low : (t : ℕ) → t < length rs → TooHigh (slice_index_or rs t []) → ⊥
   pub differ : (t : ℕ) → t < length rs → Repeated (slice_index_or rs t []) → ⊥
   pub apart : (t u : ℕ) → t < u → u < length rs → SameVertices (slice_index_or rs t []) (slice_index_or rs u []) → ⊥
-  pub no_three_lem : NoThree rs
+  pub no_three : NoThree rs

@@ -74,8 +74,8 @@ module _ (n : ℕ) (xs : List Side) where
         join_in (k / 3) (k % 3) (omega arith) (omega arith)
         ∙ ap Some (place_is (side_of (mate_at xs (3 * (k / 3) + k % 3))) i e (ap (λ (x : ℕ). x / 3) same ∙ side_item i e m) (ap (λ (x : ℕ). x % 3) same ∙ side_place i e m))
 
-    pub sides-sound : n ≤ 4096 → Sound (side_web n xs) turn_kind
-    sides-sound few = record {
+    pub sides_sound : n ≤ 4096 → Sound (side_web n xs) turn_kind
+    sides_sound few = record {
       few_items = few;
       some_side = omega arith;
       few_sides = omega arith;

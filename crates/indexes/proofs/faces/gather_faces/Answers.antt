@@ -5,7 +5,7 @@ use Rattle.indexes.specs.Faces.{OnTriangle}
 use Rattle.indexes.specs.Gathered.{Before}
 use Rattle.indexes.proofs.Orders.{triple_total}
 use Rattle.indexes.proofs.Lookups.{one_each}
-use Rattle.indexes.proofs.Offers.{gathered_none, gathered-as}
+use Rattle.indexes.proofs.Offers.{gathered_none, gathered_as}
 use Rattle.indexes.proofs.HalfFaces.{few_cells}
 use Rattle.indexes.proofs.faces.gather_faces.Goals as goal
 
@@ -43,6 +43,6 @@ returns c =
     record {
       each = λ h l. c.loop-h.invariant.2 h (omega arith);
       entries = one_each triple_total (held c.loop-h.index.index).entries c.loop-h.index.rising
-          (gathered-as triple_total (Before (OnTriangle rs) c.loop-h.h) (OnTriangle rs) (λ x g. x ≤ g) (λ k g p. p.0) (λ k g p. let l = p.0 in (p, omega arith))
+          (gathered_as triple_total (Before (OnTriangle rs) c.loop-h.h) (OnTriangle rs) (λ x g. x ≤ g) (λ k g p. p.0) (λ k g p. let l = p.0 in (p, omega arith))
           (held c.loop-h.index.index).entries c.loop-h.invariant.0);
     }

@@ -3,7 +3,7 @@ use Rattle.std.proofs.lemmas.List.{length-replicate}
 use Rattle.std.proofs.lemmas.Bool.{leb-true, le-leb}
 use Rattle.carry.specs.declared.turn.Turn.TheVariants.{Straight}
 use Rattle.rules.proofs.Counted.{counted_le}
-use Rattle.rules.proofs.Starred.{star_counts, never_refused, linked-few, few-linked}
+use Rattle.rules.proofs.Starred.{star_counts, never_refused, linked_few, few_linked}
 use Rattle.rules.proofs.Sounding.{star_fits}
 use Rattle.ground.specs.Grounds.{plain_sealed}
 use Rattle.nets.proofs.edges.linked.Goals as goal
@@ -24,13 +24,13 @@ returns-in-Ok c =
     let z = c.requires.count.0 in
     let f = c.requires.count.1 in
     let few : length rs ≤ 1024 = omega arith in
-    let n = c.requires.lawful.no_three_lem in
+    let n = c.requires.lawful.no_three in
     let p = c.in-Ok.pieces in
     let q = c.args.size in
     let acc = c.in-Ok.ensures.1 in
     let cells = star_counts rs v w q c.requires.size in (
-      (λ b. let l = leb-true (p + q) (c.args.count + 1) b in linked-few rs v w n few _ p q acc cells (omega arith)),
-      (λ s. let m = few-linked rs v w n few _ p q acc cells s in le-leb (p + q) (c.args.count + 1) (omega arith)),
+      (λ b. let l = leb-true (p + q) (c.args.count + 1) b in linked_few rs v w n few _ p q acc cells (omega arith)),
+      (λ s. let m = few_linked rs v w n few _ p q acc cells s in le-leb (p + q) (c.args.count + 1) (omega arith)),
     )
 
 pub returns-in-Err : goal.returns-in-Err

@@ -26,7 +26,7 @@ returns-in-Ok c =
     let f = k.few in
     let l = c.if-item-counts.false in
     record {
-      joined = told_partner rs k.lawful.no_three_lem c.args.item c.args.side c.in-Ok.opposite (omega arith) c.if-side-ge4.false c.in-Ok.ensures.tells.1;
+      joined = told_partner rs k.lawful.no_three c.args.item c.args.side c.in-Ok.opposite (omega arith) c.if-side-ge4.false c.in-Ok.ensures.tells.1;
       few = omega arith;
       lawful = k.lawful;
     }

@@ -2,7 +2,7 @@ use Rattle.std.proofs.Common.{ℕ, ◌+◌, ◌*◌, ◌<◌, ◌≤◌, List, [
 use Rattle.ground.specs.declared.cell.Cell.{Cell}
 use Rattle.ground.specs.declared.stage.Open.{Open}
 use Rattle.rules.specs.PlainList.{LayCause}
-use Rattle.rules.proofs.Causes.{first_high, first_equal, first-full, first-present, first_taken, no_cause}
+use Rattle.rules.proofs.Causes.{first_high, first_equal, first_full, first_present, first_taken, no_cause}
 use Rattle.rules.proofs.Corners.{vertices_to}
 use Rattle.rules.proofs.Judged.{high_so, repeat_so, not_high, not_repeated, fine_so}
 use Rattle.refusal.specs.Causes.{First}
@@ -48,7 +48,7 @@ returns-then-count-self c =
     let x = c.args.a ∷ c.args.b ∷ c.args.c ∷ c.args.d ∷ [] in
     record {
       lays = (
-        first-full (plain c.args.self.now) x (not_high x (sym c.too_high.ensures ∙ c.if-too_high.false)) (not_repeated x (sym c.repeated.ensures ∙ c.if-repeated.false))
+        first_full (plain c.args.self.now) x (not_high x (sym c.too_high.ensures ∙ c.if-too_high.false)) (not_repeated x (sym c.repeated.ensures ∙ c.if-repeated.false))
             (full c.args.self.now c.if-count-self.true),
         refl,
       );
@@ -108,7 +108,7 @@ returns-in-Err c =
     record {
       lays = (
         ⊎_elim
-            (λ w. subst (First (LayCause (plain g) x)) (sym w.0) (first-present (plain g) x a b e w.1))
+            (λ w. subst (First (LayCause (plain g) x)) (sym w.0) (first_present (plain g) x a b e w.1))
             (λ w. subst (First (LayCause (plain g) x)) (sym w.0) (first_taken (plain g) x a b e w.1 w.2))
             c.in-Err.ensures,
         refl,

@@ -4,7 +4,7 @@ use Rattle.carry.proofs.Verdicts.{enough_labels}
 use Rattle.rules.specs.Joins.{NoThree}
 use Rattle.rules.specs.Nets.{AllDiffer}
 use Rattle.rules.proofs.TurnNets.{all_differ}
-use Rattle.rules.proofs.Orienting.{oriented, unoriented, refused-exactly, opposed-after, orients_once}
+use Rattle.rules.proofs.Orienting.{oriented, unoriented, refused_exactly, opposed_after, orients_once}
 use Rattle.ground.specs.declared.stage.Open.{Open}
 use Rattle.ground.specs.Grounds.{plain, plain_of}
 use Rattle.ground.specs.Records.{rows}
@@ -12,8 +12,8 @@ use Rattle.ground.proofs.Grounds.{facts, facts_of, facts_so, few_so, many, same_
 use Rattle.ground.proofs.Joining.{joined_one}
 use Rattle.ground.proofs.stage.Open.orient.Goals as goal
 
-no_three_lem : (g : Open) → NoThree (plain g).list
-no_three_lem g = joined_one g.cells.records.now g.cells.count g.room (standing_of g.cells.records.now g.cells.count (facts g)).law
+no_three : (g : Open) → NoThree (plain g).list
+no_three g = joined_one g.cells.records.now g.cells.count g.room (standing_of g.cells.records.now g.cells.count (facts g)).law
 
 differing : (g : Open) → AllDiffer (plain g).list
 differing g = all_differ (plain g).list g.differ
@@ -55,7 +55,7 @@ returns-in-Ok c =
     let xs = c.args.labels.now in
     let ms = c.args.marks.now in
     let q = plain_of s.records.now s.count c.one_more-self.result in
-    let o = oriented (plain g) (no_three_lem g) xs ms c.carry_turns.new.labels c.carry_turns.new.marks q c.in-Ok._pieces n c.in-Ok.ensures
+    let o = oriented (plain g) (no_three g) xs ms c.carry_turns.new.labels c.carry_turns.new.marks q c.in-Ok._pieces n c.in-Ok.ensures
     (same_plain _ _ _ _ _ _
     (ap (λ (k : ℕ). rows s.records.now k) c.turn_labelled-turned.ensures.same ∙ c.turn_labelled-turned.ensures.list)
     c.turn_labelled-turned.ensures.places
@@ -64,8 +64,8 @@ returns-in-Ok c =
     record {
       orients = o;
       kept = tt;
-      exactly = refused-exactly (plain g) xs ms (differing g) (no_three_lem g) (Ok n) q _ _ o;
-      opposed = opposed-after (plain g) xs ms (differing g) (no_three_lem g) (Ok n) q _ _ o;
+      exactly = refused_exactly (plain g) xs ms (differing g) (no_three g) (Ok n) q _ _ o;
+      opposed = opposed_after (plain g) xs ms (differing g) (no_three g) (Ok n) q _ _ o;
       once = orients_once (plain g) xs ms (Ok n) q _ _ o;
     }
 
@@ -75,11 +75,11 @@ returns-in-Err c =
     let e = c.in-Err.refused in
     let xs = c.args.labels.now in
     let ms = c.args.marks.now in
-    let o = unoriented (plain g) (no_three_lem g) xs ms c.carry_turns.new.labels c.carry_turns.new.marks e c.in-Err.ensures in
+    let o = unoriented (plain g) (no_three g) xs ms c.carry_turns.new.labels c.carry_turns.new.marks e c.in-Err.ensures in
     record {
       orients = o;
       kept = refl;
-      exactly = refused-exactly (plain g) xs ms (differing g) (no_three_lem g) (Err e) (plain g) _ _ o;
+      exactly = refused_exactly (plain g) xs ms (differing g) (no_three g) (Err e) (plain g) _ _ o;
       opposed = tt;
       once = orients_once (plain g) xs ms (Err e) (plain g) _ _ o;
     }

@@ -15,6 +15,6 @@ returns c =
     let f = k.few in
     record {
       items = z;
-      sound = web_sound rs (opposite rs) corner_kind (crossing rs) (omega arith) (rows_exact rs k.lawful.no_three_lem);
+      sound = web_sound rs (opposite rs) corner_kind (crossing rs) (omega arith) (rows_exact rs k.lawful.no_three);
       meant = steps_corner rs k.lawful.differ;
     }

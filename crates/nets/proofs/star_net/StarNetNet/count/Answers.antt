@@ -1,6 +1,6 @@
 use Rattle.std.proofs.Common.{refl, arith}
 use Rattle.carry.specs.declared.turn.Turn.TheVariants.{Straight}
-use Rattle.rules.proofs.Starred.{star-sound}
+use Rattle.rules.proofs.Starred.{star_sound}
 use Rattle.ground.specs.Grounds.{plain_sealed}
 use Rattle.nets.proofs.star_net.StarNetNet.count.Goals as goal
 
@@ -12,6 +12,6 @@ returns c =
     let f = k.few in
     record {
       items = z;
-      sound = star-sound (plain_sealed n.ground.now).list n.v n.w k.lawful.no_three_lem (omega arith);
+      sound = star_sound (plain_sealed n.ground.now).list n.v n.w k.lawful.no_three (omega arith);
       meant = λ i s. (Straight, refl);
     }
