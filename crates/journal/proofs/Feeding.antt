@@ -1,8 +1,7 @@
 -- The plain list that is fed the changes of a run: its answers are the only ones, and its rows stay lawful.
-use Rattle.std.proofs.Common.{◌≡◌, ℕ, ◌+◌, ◌≤◌, Bool, true, false, cond, List, [], ◌∷◌, ◌++◌, map, length, take, drop, Ok, Err, Result, sym, refl, ap, ◌∙◌, subst, arith, length-drop, length-take}
+use Rattle.std.proofs.Common.{◌≡◌, ℕ, Bool, true, cond, List, [], ◌∷◌, ◌++◌, length, drop, Ok, Err, Result, sym, refl, ap, ◌∙◌, subst, arith, length-drop, length-take}
 use Rattle.refusal.specs.declared.Refusal.{Refusal}
 use Rattle.carry.specs.declared.turn.Turn.{Turn}
-use Rattle.rules.specs.Rows.{row}
 use Rattle.rules.specs.Joins.{LawfulRows}
 use Rattle.rules.specs.PlainList.{Plain}
 use Rattle.rules.specs.Nets.{AllOpposed}
@@ -11,11 +10,10 @@ use Rattle.rules.proofs.Orienting.{orients_alike}
 use Rattle.rules.proofs.Lasting.{lays_lawful, lifts_lawful, turns_lawful, orients_lawful, lifts_opposed, orients_opposed, lays_refused, turns_refused, orients_refused}
 use Rattle.journal.specs.declared.calls.Part.{Part}
 use Rattle.journal.specs.declared.calls.Change.{Change as AChange}
-use Rattle.journal.specs.declared.calls.Change.TheVariants.{Lay, Lift, Turn as TurnCell, Orient}
+use Rattle.journal.specs.declared.calls.Change.TheVariants.{Orient}
 use Rattle.journal.specs.declared.calls.Call.TheVariants.{Change}
 use Rattle.journal.specs.declared.calls.Answer.{Answer}
 use Rattle.journal.specs.declared.calls.Answer.TheVariants.{Number}
-use Rattle.journal.specs.declared.calls.Exchange.{Exchange}
 use Rattle.journal.specs.Parts.{part_of, Fits}
 use Rattle.journal.specs.Answers.{numbered, done}
 use Rattle.journal.specs.Steps.{Changed, GivesParts}

@@ -1,5 +1,5 @@
 -- What is found in an index that was made over places.
-use Rattle.std.proofs.Common.{◌≡◌, ℕ, ◌≤◌, List, length, take, replicate, Ok, Err, Option, Result, Ordering, sym, subst, length-take-le}
+use Rattle.std.proofs.Common.{◌≡◌, ℕ, ◌≤◌, List, length, take, replicate, Ok, Err, Option, Ordering, sym, subst, length-take-le}
 use lib.ListN.{length-replicate}
 use Rattle.refusal.specs.declared.Refusal.{Refusal}
 use Rattle.index.specs.declared.entry.Entry.{Entry}

@@ -1,5 +1,5 @@
 -- What a list is after a call was lent a part of it.
-use Rattle.std.proofs.Common.{◌≡◌, ℕ, ◌+◌, ◌-◌, ◌≤◌, List, length, take, drop, Result, sym, ap, ◌∙◌, subst, arith}
+use Rattle.std.proofs.Common.{◌≡◌, ℕ, ◌+◌, ◌-◌, List, length, take, drop, Result, sym, ap, ◌∙◌, subst, arith}
 use borrow.Rule.Slice.PartMut.{mid_of, put_mid, same_len_mid, mid_len, take_put, drop_put}
 use Rattle.std.proofs.lemmas.Slice.{between-put_mid}
 use Rattle.refusal.specs.declared.Refusal.{Refusal}

@@ -1,23 +1,22 @@
 -- The promise.
-use Rattle.std.proofs.Common.{◌≡◌, ℕ, ◌<◌, ◌≤◌, List, map, length, Some, None, Ok, Err, Result, sym, refl, ap, ◌∙◌, subst, arith}
+use Rattle.std.proofs.Common.{◌≡◌, ℕ, ◌≤◌, List, length, Ok, Err, refl, ap, arith}
 use Rattle.refusal.specs.declared.Refusal.{Refusal}
 use Rattle.refusal.specs.declared.Refusal.TheVariants.{NoLabelsAgree}
 use Rattle.carry.specs.Agreement.{NoneAgree}
-use Rattle.carry.specs.Carrying.{CarryCause, Carried}
+use Rattle.carry.specs.Carrying.{CarryCause}
 use Rattle.carry.specs.Carrying.CarryCause.{few_labels, few_marks, none_agree}
 use Rattle.carry.specs.Kinds.{Kind}
 use Rattle.carry.specs.Webs.{Web}
-use Rattle.rules.specs.Joins.{Half, Joined, NoThree}
-use Rattle.rules.specs.Questions.{TellsOpposite}
+use Rattle.rules.specs.Joins.{NoThree}
 use Rattle.rules.proofs.Causes.{no_half_cause}
 use Rattle.rules.proofs.Opposites.{joined_sym}
 use Rattle.rules.proofs.Keeping.{lawful_none}
 use Rattle.rules.proofs.Lasting.{orients_exactly, lawful_meant}
 use Rattle.mates.proofs.Opposed.{mates_opposed}
 use Rattle.journal.specs.declared.calls.Exchange.{Exchange}
-use Rattle.journal.specs.States.{Ground, made, Given}
+use Rattle.journal.specs.States.{Ground, made}
 use Rattle.journal.specs.Runs.{Run}
-use Rattle.journal.specs.Promise.{OppositesTold, CarriesExactly, CarryExact, Kept, Promise}
+use Rattle.journal.specs.Promise.{OppositesTold, CarryExact, Kept, Promise}
 use Rattle.journal.proofs.Feeding.{fed_once}
 use Rattle.journal.proofs.Running.{run_fed, run_lawful, fed_oriented}
 

@@ -1,5 +1,5 @@
 -- What a run does to a ground: it feeds the plain list the changes that were made, and nothing else.
-use Rattle.std.proofs.Common.{◌≡◌, ℕ, Bool, true, false, cond, List, [], ◌∷◌, ◌++◌, sym, refl, ap, ◌∙◌, subst, append_assoc, arith}
+use Rattle.std.proofs.Common.{◌≡◌, ℕ, Bool, true, false, cond, List, [], ◌∷◌, ◌++◌, sym, refl, ap, ◌∙◌, subst, append_assoc}
 use Rattle.rules.specs.Joins.{LawfulRows}
 use Rattle.rules.specs.PlainList.{Plain}
 use Rattle.rules.specs.Nets.{AllOpposed}
@@ -12,7 +12,7 @@ use Rattle.journal.specs.declared.calls.Question.TheVariants.{Counts, Changes, R
 use Rattle.journal.specs.declared.calls.Call.{Call}
 use Rattle.journal.specs.declared.calls.Call.TheVariants.{Change, Seal, Reopen, Ask, Carry}
 use Rattle.journal.specs.declared.calls.Answer.{Answer}
-use Rattle.journal.specs.declared.calls.Answer.TheVariants.{Number, NotMade}
+use Rattle.journal.specs.declared.calls.Answer.TheVariants.{Number}
 use Rattle.journal.specs.declared.calls.Exchange.{Exchange}
 use Rattle.journal.specs.States.{Ground, made, Given, State}
 use Rattle.journal.specs.Steps.{Asked, Allowed, Does, Tried, Step}

@@ -1,5 +1,5 @@
 -- Parts of lists, which calls are handed.
-use Rattle.std.specs.Prelude.{◌≡◌, ℕ, ◌+◌, ◌≤◌, List, length, take, drop}
+use Rattle.std.specs.Prelude.{◌≡◌, ◌+◌, ◌≤◌, List, length, take, drop}
 use Rattle.journal.specs.declared.calls.Part.{Part}
 
 -- the places of a part

@@ -1,13 +1,13 @@
 -- What whoever makes a ground and then only calls it is promised.
-use Rattle.std.specs.Prelude.{◌≡◌, ℕ, ◌<◌, ◌≤◌, min, Bool, true, false, cond, ◌↔◌, List, [], ◌∷◌, ◌++◌, map, length, Some, None, Ok, Err, Result, ◌≢◌, slice_index}
+use Rattle.std.specs.Prelude.{◌≡◌, ℕ, ◌<◌, ◌≤◌, Bool, true, false, cond, ◌↔◌, List, [], ◌∷◌, ◌++◌, map, length, Some, None, Ok, Err, Result, ◌≢◌, slice_index}
 use Rattle.refusal.specs.declared.Refusal.{Refusal}
 use Rattle.refusal.specs.declared.Refusal.TheVariants.{NoLabelsAgree}
 use Rattle.carry.specs.declared.turn.Turn.{Turn}
 use Rattle.carry.specs.declared.corner.Corner.{Corner}
-use Rattle.carry.specs.Agreement.{Agrees, Grounded, NoneAgree}
+use Rattle.carry.specs.Agreement.{Agrees, Grounded}
 use Rattle.carry.specs.Carrying.{Carried}
 use Rattle.rules.specs.Joins.{Half, Joined, NoThree, LawfulRows}
-use Rattle.rules.specs.PlainList.{Plain, empty}
+use Rattle.rules.specs.PlainList.{Plain}
 use Rattle.rules.specs.Orients.{Orients, RefusedExactly}
 use Rattle.rules.specs.Questions.{TellsOpposite}
 use Rattle.rules.specs.Nets.{AllOpposed, TurnsMeant}

@@ -1,10 +1,9 @@
 -- What one call does to a ground and to the lists of its caller. Each call is measured by the relation that its own contract cites.
-use Rattle.std.specs.Prelude.{◌≡◌, ℕ, ◌≤◌, Bool, true, false, List, length, Option, Result}
+use Rattle.std.specs.Prelude.{◌≡◌, ℕ, ◌≤◌, Bool, true, false, List, Option, Result}
 use Rattle.std.specs.declared.cmp.Ordering.{Ordering}
 use Rattle.refusal.specs.declared.Refusal.{Refusal}
 use Rattle.refusal.specs.Causes.{Answered}
 use Rattle.carry.specs.declared.turn.Turn.{Turn}
-use Rattle.carry.specs.declared.corner.Corner.{Corner}
 use Rattle.carry.specs.Kinds.{Kind}
 use Rattle.carry.specs.Turns.{turn_meaning, turn_kind}
 use Rattle.carry.specs.Corners.{corner_meaning}
@@ -39,7 +38,7 @@ use Rattle.journal.specs.declared.calls.Answer.TheVariants.{Number, Done, Counte
 use Rattle.journal.specs.declared.calls.Exchange.{Exchange}
 use Rattle.journal.specs.Parts.{part_of, Fits, Around}
 use Rattle.journal.specs.Answers.{numbered, done, read, told, paired, judged}
-use Rattle.journal.specs.States.{Ground, standing, Given, State, with_ground, with_turns, with_corners, with_labels, with_numbers}
+use Rattle.journal.specs.States.{standing, Given, State, with_ground, with_turns, with_corners, with_labels, with_numbers}
 
 -- CHANGES
 

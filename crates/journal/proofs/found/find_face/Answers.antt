@@ -1,5 +1,4 @@
-use Rattle.std.proofs.Common.{◌≡◌, ℕ, ◌≤◌, List, length, take, replicate, Result, sym, subst, length-take-le}
-use lib.ListN.{length-replicate}
+use Rattle.std.proofs.Common.{ℕ, List, take, replicate, Result, subst}
 use Rattle.refusal.specs.declared.Refusal.{Refusal}
 use Rattle.index.specs.declared.entry.Entry.{Entry}
 use Rattle.index.specs.declared.keys.Triple.{Triple}

@@ -5,7 +5,7 @@ use Rattle.journal.specs.declared.calls.Call.{Call}
 use Rattle.journal.specs.declared.calls.Answer.{Answer}
 use Rattle.journal.specs.declared.calls.Exchange.{Exchange}
 use Rattle.journal.specs.declared.desk.Desk.{Desk}
-use Rattle.journal.specs.States.{Ground, made, standing, Given, State, state_of}
+use Rattle.journal.specs.States.{made, standing, Given, State, state_of}
 use Rattle.journal.specs.Steps.{Step}
 use Rattle.journal.specs.Runs.{Replay}
 use Rattle.journal.specs.Runs.Replay.{none}
