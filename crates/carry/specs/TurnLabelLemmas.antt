@@ -1,3 +1,4 @@
+-- By meaning, turns are a group: each law by its cases.
 use Rattle.std.specs.Prelude.{◌≡◌, ◌+◌, ◌%◌, refl}
 use Rattle.carry.specs.declared.turn.Turn.{Turn}
 use Rattle.carry.specs.declared.turn.Turn.TheVariants.{Straight, Turned}

@@ -21,7 +21,7 @@ pub trait Net {
     /// What the net means.
     ghost web: { Self → Web };
 
-    /// The number of sides of each item: `SIDES`, which a contract cannot name.
+    /// The number of sides of each item, which is `SIDES`.
     fn side_count(&self) -> usize
         ensures { result ≡ (web self.now).sides };
 

@@ -1,3 +1,4 @@
+-- A pair from its two parts: pairs with the same parts are the same.
 use Rattle.std.specs.Prelude.{ℕ}
 use Rattle.index.specs.declared.keys.Pair.{Pair}
 

@@ -1,3 +1,4 @@
+-- A triple from its three parts: triples with the same parts are the same.
 use Rattle.std.specs.Prelude.{ℕ}
 use Rattle.index.specs.declared.keys.Triple.{Triple}
 
