@@ -37,7 +37,7 @@ fn ask(question: Question) -> Exchange {
 // The firm lays the pit round the first tank, one cell the wrong way round, and orients it. It seals
 // the model and asks what the solver wants to know. The fuel company reopens it, lays the cells
 // round a second tank, is refused some, and seals it again.
-pub fn station() -> [Exchange; 36] {
+pub(crate) fn station() -> [Exchange; 36] {
     [
         lay(0, 1, 2, 3),
         lay(4, 1, 2, 3),

@@ -171,7 +171,7 @@ fn print_list(rt: &impl Print, exchange: &Exchange, numbers: &[u16]) -> anyhow::
 }
 
 /// One line: the call, what it answered, and the numbers that it listed.
-pub fn line(rt: &impl Print, exchange: &Exchange, numbers: &[u16]) -> anyhow::Result<()> {
+pub(crate) fn line(rt: &impl Print, exchange: &Exchange, numbers: &[u16]) -> anyhow::Result<()> {
     print_said(rt, call(exchange.call))?;
     print!(rt; " - ")?;
     print_said(rt, answer(exchange.answer))?;
