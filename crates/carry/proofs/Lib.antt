@@ -4,3 +4,5 @@ pub mod Moves
 pub mod Sweep
 pub mod Judgement
 pub mod Verdicts
+pub mod Ranges
+pub mod Places

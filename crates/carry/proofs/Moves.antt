@@ -1,9 +1,9 @@
 -- What marking, advancing and leaving an item keep.
-use Rattle.std.proofs.Common.{◌≡◌, ℕ, suc, ◌+◌, ◌-◌, ◌/◌, ◌%◌, ◌<◌, ◌≤◌, ◌≢◌, ◌⊎◌, List, length, get_or, set, Some, sym, refl, ap, ◌∙◌, subst, inl, inr, arith, length-set, get_or-set_other, get_or-set_same}
+use Rattle.std.proofs.Common.{◌≡◌, ℕ, suc, ◌+◌, ◌-◌, ◌/◌, ◌%◌, ◌<◌, ◌≤◌, ◌≢◌, ◌⊎◌, List, length, get_or, set, Some, None, sym, refl, ap, ◌∙◌, subst, inl, inr, arith, length-set, get_or-set_other, get_or-set_same}
 use Rattle.carry.specs.declared.net.Place.{Place}
 use Rattle.carry.specs.Kinds.{Kind}
 use Rattle.carry.specs.Webs.{Web, Sound}
-use Rattle.std.proofs.lemmas.List.{drop-set-lt}
+use Rattle.std.proofs.lemmas.List.{drop-set-lt, set_comm}
 use Rattle.carry.specs.Walks.{Tried, Advanced, Led, starts, goes, weight, Open, Marked, Rests, Grown, Ranked, Walking}
 use Rattle.std.proofs.lemmas.Bool.{cases_eq, cases_lt}
 use Rattle.carry.proofs.Lists.{weight_set}
@@ -101,7 +101,7 @@ module _ {w : Web} {k : Kind} (sound : Sound w k) where
       omega arith
 
   -- back to the item that the walk came from
-  pub leave : (ms : List ℕ) (x : ℕ) (p : Place) → Walking w ms x → get_or ms x 0 / 8 ≡ w.sides → get_or ms x 0 % 8 < 5 → w.joins x (get_or ms x 0 % 8 - 1) ≡ Some p → Walking w (advanced ms x) p.item
+  leave : (ms : List ℕ) (x : ℕ) (p : Place) → Walking w ms x → get_or ms x 0 / 8 ≡ w.sides → get_or ms x 0 % 8 < 5 → w.joins x (get_or ms x 0 % 8 - 1) ≡ Some p → Walking w (advanced ms x) p.item
   leave ms x p v full side e =
       let h : x < length ms = omega (arith, v.marked.fits, v.inside) in
       let rank = v.ranked.0 in
@@ -138,7 +138,7 @@ module _ {w : Web} {k : Kind} (sound : Sound w k) where
       }
 
   -- the root is done with: so is all that was open
-  pub finish : (ms : List ℕ) (x : ℕ) → Walking w ms x → get_or ms x 0 / 8 ≡ w.sides → get_or ms x 0 % 8 ≡ 5 → Rests w (advanced ms x)
+  finish : (ms : List ℕ) (x : ℕ) → Walking w ms x → get_or ms x 0 / 8 ≡ w.sides → get_or ms x 0 % 8 ≡ 5 → Rests w (advanced ms x)
   finish ms x v full side =
       let h : x < length ms = omega (arith, v.marked.fits, v.inside) in
       let rank = v.ranked.0 in
@@ -372,8 +372,39 @@ module _ {w : Web} {k : Kind} (sound : Sound w k) where
         rest = drop-set-lt w.items new x _ v.inside ∙ drop-set-lt w.items ms q _ win.0;
       })
 
-  pub try_turn : (ms ls ms1 ls1 : List ℕ) (x r : ℕ) → Walking w ms x → w.items ≤ length ls → get_or ms x 0 / 8 < w.sides → Tried w k x (get_or ms x 0 / 8) ms ls ms1 ls1 r → Advanced w k ms ls (set ms1 x (get_or ms x 0 + 8)) ls1 (Some r)
-  try_turn ms ls ms1 ls1 x r v room less t = elim t [
-    | inl a ↦ subst (λ (n : ℕ). Advanced w k ms ls (set ms1 x (get_or ms x 0 + 8)) ls1 (Some n)) (sym a.0) (subst (λ (n : List ℕ). Advanced w k ms ls (set n x (get_or ms x 0 + 8)) ls1 (Some x)) (sym a.1) (subst (λ (n : List ℕ). Advanced w k ms ls (advanced ms x) n (Some x)) (sym a.2) (stay ms ls x v less a.3)))
-    | inr b ↦ (let p = b.0 in subst (λ (n : ℕ). Advanced w k ms ls (set ms1 x (get_or ms x 0 + 8)) ls1 (Some n)) (sym b.3) (subst (λ (n : List ℕ). Advanced w k ms ls (set n x (get_or ms x 0 + 8)) ls1 (Some p.item)) (sym b.4) (subst (λ (n : List ℕ). Advanced w k ms ls (set (set ms p.item (1 + p.side)) x (get_or ms x 0 + 8)) n (Some p.item)) (sym b.5) (enter ms ls x p v room less b.1 b.2))))
-  ]
+  pub try_turn : (ms ls ms' ls' : List ℕ) (x r : ℕ) → Walking w ms x → w.items ≤ length ls → get_or ms x 0 / 8 < w.sides → Tried w k x (get_or ms x 0 / 8) (advanced ms x) ls ms' ls' r → Advanced w k ms ls ms' ls' (Some r)
+  try_turn ms ls ms' ls' x r v room less t =
+      let h : x < length ms = omega (arith, v.marked.fits, v.inside) in
+      elim t [
+        | inl a ↦
+            (let fine : (p : Place) → w.joins x (get_or ms x 0 / 8) ≡ Some p → 0 < get_or ms p.item 0 = λ p j. was_met ms x p.item h v.stands.0 (a.3 p j) in
+            subst (λ (n : ℕ). Advanced w k ms ls ms' ls' (Some n)) (sym a.0) (subst (λ (n : List ℕ). Advanced w k ms ls n ls' (Some x)) (sym a.1) (subst (λ (n : List ℕ). Advanced w k ms ls (advanced ms x) n (Some x)) (sym a.2) (stay ms ls x v less fine))))
+        | inr b ↦
+            (let p = b.0 in
+            let other : x ≢ p.item = λ z. let y : get_or (advanced ms x) p.item 0 ≡ get_or ms x 0 + 8 = ap (λ (n : ℕ). get_or (advanced ms x) n 0) (sym z) ∙ get_or-set_same ms x _ 0 h in let none = b.2 in omega arith in
+            let bare : get_or ms p.item 0 ≡ 0 = sym (get_or-set_other ms x p.item _ 0 (λ z. other (sym z))) ∙ b.2 in
+            let marks : ms' ≡ set (set ms p.item (1 + p.side)) x (get_or ms x 0 + 8) = b.4 ∙ set_comm ms x p.item _ _ other in
+            subst (λ (n : ℕ). Advanced w k ms ls ms' ls' (Some n)) (sym b.3) (subst (λ (n : List ℕ). Advanced w k ms ls n ls' (Some p.item)) (sym marks) (subst (λ (n : List ℕ). Advanced w k ms ls (set (set ms p.item (1 + p.side)) x (get_or ms x 0 + 8)) n (Some p.item)) (sym b.5) (enter ms ls x p v room less b.1 bare))))
+      ]
+
+  -- x is done with, and the walk goes back to where it came from
+  pub go_back : (ms ls : List ℕ) (x : ℕ) (p : Place) → Walking w ms x → get_or ms x 0 / 8 ≡ w.sides → get_or ms x 0 % 8 < 5 → w.joins x (get_or ms x 0 % 8 - 1) ≡ Some p → Advanced w k ms ls (advanced ms x) ls (Some p.item)
+  go_back ms ls x p v full side e =
+      let h : x < length ms = omega (arith, v.marked.fits, v.inside) in
+      record {
+        goes = leave ms x p v full side e;
+        lowers = advance_weight ms x v.inside v.stands v.marked;
+        grows = λ root ms₀ ls₀ g. advance_grown root ms₀ ls₀ ms ls x h v.stands g;
+        rest = drop-set-lt w.items ms x _ v.inside;
+      }
+
+  -- x is done with, and the piece with it
+  pub end_piece : (ms ls : List ℕ) (x : ℕ) → Walking w ms x → get_or ms x 0 / 8 ≡ w.sides → get_or ms x 0 % 8 ≡ 5 → Advanced w k ms ls (advanced ms x) ls None
+  end_piece ms ls x v full side =
+      let h : x < length ms = omega (arith, v.marked.fits, v.inside) in
+      record {
+        goes = finish ms x v full side;
+        lowers = advance_weight ms x v.inside v.stands v.marked;
+        grows = λ root ms₀ ls₀ g. advance_grown root ms₀ ls₀ ms ls x h v.stands g;
+        rest = drop-set-lt w.items ms x _ v.inside;
+      }

@@ -14,9 +14,13 @@ pub data Reach (w : Web) (i : ℕ) : ℕ → Type 0 where
 abbrev pub FirstItem : Web → ℕ → Type 0
 FirstItem w i = (i < w.items) × ((j : ℕ) → Reach w i j → i ≤ j)
 
--- for every joined side s of the item i, the label of the item that it leads to is that of i combined with the step
+-- if the side s of the item i is joined, the label of the item that it leads to is that of i combined with the step
+abbrev pub AgreesOver : Web → Kind → List ℕ → ℕ → ℕ → Type 0
+AgreesOver w k ls i s = (p : Place) → w.joins i s ≡ Some p → slice_index ls p.item ≡ k.combined (slice_index ls i) (w.steps i s)
+
+-- so for every side of the item i
 abbrev pub AgreesAt : Web → Kind → List ℕ → ℕ → Type 0
-AgreesAt w k ls i = (s : ℕ) (p : Place) → w.joins i s ≡ Some p → slice_index ls p.item ≡ k.combined (slice_index ls i) (w.steps i s)
+AgreesAt w k ls i = (s : ℕ) → AgreesOver w k ls i s
 
 -- the labels agree
 abbrev pub Agrees : Web → Kind → List ℕ → Type 0

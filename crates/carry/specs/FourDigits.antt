@@ -1,6 +1,6 @@
 -- Four different digits: what holds of all of them is one computed test; the rest goes by the digits.
-use Rattle.std.proofs.Common.{◌≡◌, ℕ, zero, suc, ◌<◌, Bool, true, cond, ◌&&◌, eqb, ltb, ◌≢◌, sym, refl, ap, ◌∙◌, subst, arith}
-use Rattle.std.proofs.lemmas.Bool.{and_parts, ltb-true, eqb-true, eq-eqb, ne_eqb, cond-true, cond-false}
+use Rattle.std.proofs.Common.{◌≡◌, ℕ, zero, suc, ◌<◌, Bool, true, cond, ◌&&◌, eqb, ltb, sym, refl, ap, ◌∙◌, subst, arith}
+use Rattle.std.proofs.lemmas.Bool.{and_parts, ltb-true, eqb-true, cond-true}
 use Rattle.carry.specs.Digits.{different, number, digit, place, composed, undone}
 
 pub four : (P : ℕ → Type 0) → P 0 → P 1 → P 2 → P 3 → (i : ℕ) → i < 4 → P i
@@ -126,28 +126,6 @@ pub same_digits : (a b c d a' b' c' d' : ℕ) → different a b c d ≡ true →
 same_digits a b c d a' b' c' d' h h' e =
     let l = low a b c d h in let l' = low a' b' c' d' h' in
     (omega arith, omega arith, omega arith, omega arith)
-
--- the place of a digit
-pub place_is_0 : (a b c d k : ℕ) → different a b c d ≡ true → a ≡ k → place (number a b c d) k ≡ 0
-place_is_0 a b c d k h e = let n = number a b c d in let o = own_digits a b c d h in
-    cond-true (eqb (digit n 0) k) _ _ (eq-eqb _ _ (o.0 ∙ e))
-
-pub place_is_1 : (a b c d k : ℕ) → different a b c d ≡ true → a ≢ k → b ≡ k → place (number a b c d) k ≡ 1
-place_is_1 a b c d k h x e = let n = number a b c d in let o = own_digits a b c d h in
-    cond-false (eqb (digit n 0) k) _ _ (ne_eqb _ _ (λ q. x (sym o.0 ∙ q))) ∙
-    cond-true (eqb (digit n 1) k) _ _ (eq-eqb _ _ (o.1 ∙ e))
-
-pub place_is_2 : (a b c d k : ℕ) → different a b c d ≡ true → a ≢ k → b ≢ k → c ≡ k → place (number a b c d) k ≡ 2
-place_is_2 a b c d k h x y e = let n = number a b c d in let o = own_digits a b c d h in
-    cond-false (eqb (digit n 0) k) _ _ (ne_eqb _ _ (λ q. x (sym o.0 ∙ q))) ∙
-    cond-false (eqb (digit n 1) k) _ _ (ne_eqb _ _ (λ q. y (sym o.1 ∙ q))) ∙
-    cond-true (eqb (digit n 2) k) _ _ (eq-eqb _ _ (o.2 ∙ e))
-
-pub place_is_3 : (a b c d k : ℕ) → different a b c d ≡ true → a ≢ k → b ≢ k → c ≢ k → place (number a b c d) k ≡ 3
-place_is_3 a b c d k h x y z = let n = number a b c d in let o = own_digits a b c d h in
-    cond-false (eqb (digit n 0) k) _ _ (ne_eqb _ _ (λ q. x (sym o.0 ∙ q))) ∙
-    cond-false (eqb (digit n 1) k) _ _ (ne_eqb _ _ (λ q. y (sym o.1 ∙ q))) ∙
-    cond-false (eqb (digit n 2) k) _ _ (ne_eqb _ _ (λ q. z (sym o.2 ∙ q)))
 
 pub moved : (a b c d a' b' c' d' : ℕ) → a ≡ a' → b ≡ b' → c ≡ c' → d ≡ d' → different a b c d ≡ true → different a' b' c' d' ≡ true
 moved a b c d a' b' c' d' p q r s h =

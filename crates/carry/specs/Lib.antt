@@ -8,6 +8,6 @@ pub mod Agreement
 pub mod Lists
 pub mod Carrying
 pub mod Walks
-pub mod TurnLabelLemmas
+pub mod TurnGroup
 pub mod FourDigits
 pub mod CornerGroup

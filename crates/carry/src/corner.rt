@@ -18,14 +18,16 @@ pub struct Corner {
 fn four_different(a: u8, b: u8, c: u8, d: u8) -> bool
     ensures { result ≡ different a b c d }
 {
-    let low = a < 4 && b < 4 && c < 4 && d < 4;
-    low && a != b && a != c && a != d && b != c && b != d && c != d
+    let digits = [a, b, c, d];
+    (0..4).all(|k| digits.contains(&k))
 }
 
 impl Corner {
+    ghost use Rattle.carry.specs.Corners.{corner_meaning};
+
     /// The label with these digits, if they are four different ones from 0 to 3.
     pub fn new(a: u8, b: u8, c: u8, d: u8) -> Option<Corner>
-        ensures { elim result [ Some x ↦ (different a b c d ≡ true) × (number x.a x.b x.c x.d ≡ number a b c d) | None ↦ different a b c d ≡ false ] }
+        ensures { elim result [ Some x ↦ (different a b c d ≡ true) × (corner_meaning x ≡ number a b c d) | None ↦ different a b c d ≡ false ] }
     {
         if four_different(a, b, c, d) {
             return Some(Corner { a, b, c, d });
@@ -34,15 +36,17 @@ impl Corner {
     }
 
     /// The four digits.
+    #[tactic(auto, using(crate::specs::FourDigits::own_digits))]
     pub fn digits(self) -> [u8; 4]
-        ensures { result ≡ digits (number self.a self.b self.c self.d) }
+        ensures { result ≡ digits (corner_meaning self) }
     {
         [self.a, self.b, self.c, self.d]
     }
 
     /// The four digits as one number.
+    #[tactic(auto, using(crate::specs::FourDigits::low))]
     pub fn as_number(self) -> u16
-        ensures { result ≡ number self.a self.b self.c self.d }
+        ensures { result ≡ corner_meaning self }
     {
         let Corner { a, b, c, d } = self;
         ((a as u16 * 10 + b as u16) * 10 + c as u16) * 10 + d as u16
@@ -51,41 +55,36 @@ impl Corner {
     // Digit k.
     fn digit_at(self, k: u8) -> u8
         requires { k < 4 }
-        ensures { result ≡ digit (number self.a self.b self.c self.d) k }
+        ensures { result ≡ digit (corner_meaning self) k }
     {
-        match k {
-            0 => self.a,
-            1 => self.b,
-            2 => self.c,
-            _ => self.d,
-        }
+        self.digits()[k as usize]
     }
 
     // The place of the digit k.
     fn place_of(self, k: u8) -> u8
-        ensures { result ≡ place (number self.a self.b self.c self.d) k }
+        ensures { result ≡ place (corner_meaning self) k }
     {
-        if self.a == k {
-            0
-        } else if self.b == k {
-            1
-        } else if self.c == k {
-            2
-        } else {
-            3
+        match self.digits().iter().position(|&d| d == k) {
+            Some(place) => place as u8,
+            None => 3,
         }
     }
 }
 
 impl Label for Corner {
-    ghost meaning = { λ x. number x.a x.b x.c x.d };
+    ghost use Rattle.carry.specs.Corners.{corner_meaning};
+
+    ghost meaning = { corner_meaning };
 
     ghost kind = { corner_kind };
 
-    ghost use Rattle.carry.specs.CornerGroup.{corner_group};
+    ghost use Rattle.carry.specs.CornerGroup.{corner_group, corner_equal};
 
     ghost group = { corner_group };
 
+    ghost equal = { corner_equal };
+
+    #[tactic(auto, unfolding(crate::specs::Digits::different))]
     fn neutral() -> Corner {
         Corner {
             a: 0,
@@ -95,6 +94,7 @@ impl Label for Corner {
         }
     }
 
+    #[tactic(auto, using(crate::specs::FourDigits::low))]
     fn combine(self, other: Corner) -> Corner {
         Corner {
             a: self.digit_at(other.a),
@@ -111,9 +111,5 @@ impl Label for Corner {
             c: self.place_of(2),
             d: self.place_of(3),
         }
-    }
-
-    fn same(self, other: Corner) -> bool {
-        self.as_number() == other.as_number()
     }
 }

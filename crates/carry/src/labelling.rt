@@ -1,48 +1,46 @@
 //! Labels that agree over the joins of a net.
-ghost use Rattle.std.specs.Prelude.{◌≡◌, ℕ, ◌<◌, ◌≤◌, true, false, map, length, drop, slice_index};
-ghost use Rattle.carry.specs.Webs.{Sound};
-ghost use Rattle.carry.specs.Agreement.{AgreesAt, Agrees};
+ghost use Rattle.std.specs.Prelude.{◌≡◌, ℕ, ◌<◌, ◌≤◌, ◌↔◌, IsTrue, map, length, drop, slice_index};
+ghost use Rattle.carry.specs.Agreement.{AgreesOver, AgreesAt, Agrees};
 ghost use Rattle.carry.specs.Carrying.{Carried};
 
+use crate::counted::CountedNet;
 use crate::label::Label;
 use crate::marks::{MarkGuard, clear};
 use crate::net::Net;
-use crate::walk::spread;
 use refusal::Refusal;
 
-/// Whether the labels agree over each joined side of `item`.
-fn agrees_at<N: Net>(net: &N, labels: &[N::Label], item: usize) -> bool
-    requires sound { Sound (N.web net.now) N.Label.Label.kind }
-    requires state { ((N.web net.now).items ≤ length labels.now) × (item < (N.web net.now).items) }
-    ensures agrees { result ≡ true → AgreesAt (N.web net.now) N.Label.Label.kind (map N.Label.Label.meaning labels.now) item }
-    ensures fails { result ≡ false → AgreesAt (N.web net.now) N.Label.Label.kind (map N.Label.Label.meaning labels.now) item → ⊥ }
-{
-    let here = labels[item];
-    for side in 0..net.side_count() {
-        if let Some(p) = net.join(item, side) {
-            let led = here.combine(net.step(item, side));
-            let there = labels[p.item];
-            if !led.same(there) {
-                return false;
-            }
-        }
+impl<N: Net> CountedNet<'_, N> {
+    /// Whether the labels agree over this side of `item`, if it is joined.
+    fn agrees_over(&self, labels: &[N::Label], item: usize, side: usize) -> bool
+        requires labels { self.now.count ≤ length labels.now }
+        requires inside { item < self.now.count }
+        ensures { IsTrue result ↔ AgreesOver (N.web self.now.net.now) N.Label.Label.kind (map N.Label.Label.meaning labels.now) item side }
+    {
+        let Some(p) = self.net.join(item, side) else {
+            return true;
+        };
+        let here = labels[item];
+        let there = labels[p.item];
+        let led = here.combine(self.net.step(item, side));
+        led.same(there)
     }
-    true
-}
 
-/// Whether the labels agree over each joined side of each item.
-fn agrees<N: Net>(net: &N, labels: &[N::Label], count: usize) -> bool
-    requires sound { Sound (N.web net.now) N.Label.Label.kind }
-    requires state { (count ≡ (N.web net.now).items) × (count ≤ length labels.now) }
-    ensures agrees { result ≡ true → Agrees (N.web net.now) N.Label.Label.kind (map N.Label.Label.meaning labels.now) }
-    ensures fails { result ≡ false → Agrees (N.web net.now) N.Label.Label.kind (map N.Label.Label.meaning labels.now) → ⊥ }
-{
-    for item in 0..count {
-        if !agrees_at(net, labels, item) {
-            return false;
-        }
+    /// Whether the labels agree over each joined side of `item`.
+    fn agrees_at(&self, labels: &[N::Label], item: usize) -> bool
+        requires labels { self.now.count ≤ length labels.now }
+        requires inside { item < self.now.count }
+        ensures { IsTrue result ↔ AgreesAt (N.web self.now.net.now) N.Label.Label.kind (map N.Label.Label.meaning labels.now) item }
+    {
+        (0..self.net.side_count()).all(|side| self.agrees_over(labels, item, side))
     }
-    true
+
+    /// Whether the labels agree over each joined side of each item.
+    fn agrees(&self, labels: &[N::Label]) -> bool
+        requires { self.now.count ≤ length labels.now }
+        ensures { IsTrue result ↔ Agrees (N.web self.now.net.now) N.Label.Label.kind (map N.Label.Label.meaning labels.now) }
+    {
+        (0..self.count).all(|item| self.agrees_at(labels, item))
+    }
 }
 
 /// Makes the labels below `count` neutral.
@@ -51,9 +49,8 @@ fn blank<L: Label + Copy>(labels: &mut [L], count: usize)
     ensures neutral { (i : ℕ) → i < count → slice_index (map L.meaning labels.new) i ≡ L.kind.neutral }
     ensures rest { drop count labels.new ≡ drop count labels.old }
 {
-    for i in 0..count {
-        labels[i] = L::neutral();
-    }
+    let neutral = L::neutral();
+    labels[..count].fill_with(|| neutral);
 }
 
 /// Labels the items of a net so that the labels agree over every joined side and the first item of
@@ -69,10 +66,11 @@ pub fn carry<N: Net>(net: &N, labels: &mut [N::Label], marks: &mut [u8]) -> Resu
     if labels.len() < count || marks.len() < count {
         return Err(Refusal::ListTooShort);
     }
+    let counted = CountedNet { net, count };
     clear(marks, count);
     let guard = MarkGuard { marks, count };
-    let pieces = spread(net, labels, guard.marks, count);
-    if agrees(net, labels, count) {
+    let pieces = counted.spread(labels, guard.marks);
+    if counted.agrees(labels) {
         return Ok(pieces);
     }
     blank(labels, count);

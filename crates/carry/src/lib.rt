@@ -2,6 +2,7 @@
 #![tactic(auto)]
 
 mod corner;
+mod counted;
 mod label;
 mod labelling;
 mod marks;

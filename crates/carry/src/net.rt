@@ -21,7 +21,8 @@ pub trait Net {
     /// What the net means.
     ghost web: { Self → Web };
 
-    /// The number of sides of each item, which is `SIDES`.
+    /// The number of sides of each item, which is `SIDES`: a clause cannot name a trait's constant
+    /// yet where an implementation has a lifetime, as most nets have.
     fn side_count(&self) -> usize
         ensures { result ≡ (web self.now).sides };
 

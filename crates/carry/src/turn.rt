@@ -1,8 +1,6 @@
 //! The turn: the label of what may be turned round, 0 or 1.
 ghost use Rattle.carry.specs.Turns.{turn_meaning, turn_kind};
-ghost use Rattle.std.specs.Prelude.{refl};
-ghost use Rattle.carry.specs.declared.turn.Turn.TheVariants.{Straight};
-ghost use Rattle.carry.specs.TurnLabelLemmas.{sum, assoc3, left, right, twice};
+ghost use Rattle.carry.specs.TurnGroup.{turn_group, turn_equal};
 
 use crate::label::Label;
 
@@ -18,16 +16,9 @@ impl Label for Turn {
 
     ghost kind = { turn_kind };
 
-    ghost group = { record {
-      associative = assoc3;
-      neutral_before = left;
-      neutral_after = right;
-      inverse_before = twice;
-      inverse_after = twice;
-      neutral_meant = (Straight, refl);
-      combined_meant = sum;
-      inverse_meant = λ a. (a, refl);
-    } };
+    ghost group = { turn_group };
+
+    ghost equal = { turn_equal };
 
     fn neutral() -> Turn {
         Turn::Straight
@@ -43,9 +34,5 @@ impl Label for Turn {
 
     fn invert(self) -> Turn {
         self // each turn is its own inverse
-    }
-
-    fn same(self, other: Turn) -> bool {
-        self == other
     }
 }

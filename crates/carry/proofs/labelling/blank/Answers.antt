@@ -1,17 +1,14 @@
-use Rattle.std.proofs.Common.{◌<◌, ◌≢◌, map, length, ◌∙◌, arith, get_or-set_other, get_or-set_same, below_more}
-use lib.ListN.{length-map}
-use lib.Seq.{map-set}
-use Rattle.std.proofs.lemmas.List.{drop-set-lt}
+use Rattle.std.proofs.Common.{rules, ◌≡◌, ◌<◌, ◌++◌, length, get_or, drop, ap, ◌∙◌, arith, length-append, length-take}
+use Rattle.std.proofs.lemmas.List.{get_or-map, get_or_append_left}
+use Rattle.carry.proofs.Lists.{filled}
 use Rattle.carry.proofs.labelling.blank.Goals as goal
 
-pub loop-i-preserved : goal.loop-i-preserved
-loop-i-preserved g c =
+pub returns-clause-neutral : goal.returns-clause-neutral
+returns-clause-neutral g c i less =
     let f = g.L.Label.meaning in
-    let xs = c.loop-i.labels in
-    let i = c.loop-i.i in
-    let lt : i < length (map f xs) = omega (arith, length-map xs f) in (
-      below_more _ _
-          (λ k h. let ne : k ≢ i = omega arith in rw (map-set f xs i c.neutral.result, get_or-set_other) (c.loop-i.invariant.0 k h))
-          (rw (map-set f xs i c.neutral.result, get_or-set_same) c.neutral.ensures),
-      drop-set-lt c.args.count xs i c.neutral.result (omega arith) ∙ c.loop-i.invariant.1,
-    )
+    let v = c.neutral-neutral.result in
+    let ys = c.fill_with.new.self in
+    let rest = drop c.args.count c.args.labels.now in
+    let short : i < length ys = omega (arith, c.fill_with.ensures.len, length-take c.args.count c.args.labels.now) in
+    let same : get_or ys i v ≡ v = filled _ _ v (λ x q k. search rules) ys c.fill_with.ensures.ran.0 c.fill_with.ensures.ran.1 i v short in
+    get_or-map f (ys ++ rest) i v 0 (omega (arith, length-append ys rest)) ∙ ap f (get_or_append_left ys rest v i short ∙ same) ∙ c.neutral-neutral.ensures

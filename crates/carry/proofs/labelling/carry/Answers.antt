@@ -19,7 +19,7 @@ returns-then-agrees g c =
     let xs = c.args.labels.now in
     let e = c.count-count.ensures.items in
     let last = c.drop-guard.ensures in
-    let agrees = c.if-agrees.ensures.agrees refl in (
+    let agrees = c.if-agrees.ensures.0 refl in (
       no_cause (omega arith) (omega arith) c.spread-pieces.new.labels (omega arith) agrees,
       agreeing s gr me _ _ c.spread-pieces.ensures.spread agrees,
       record {
@@ -40,7 +40,7 @@ returns g c =
     let xs = c.args.labels.now in
     let e = c.count-count.ensures.items in
     let last = c.drop-guard-2.ensures in (
-      none_agrees (omega arith) (omega arith) (λ ys room a. c.if-agrees.ensures.fails refl (spread_agrees s gr me _ _ c.spread-pieces.ensures.spread ys room a)),
+      none_agrees (omega arith) (omega arith) (λ ys room a. let no = c.if-agrees.ensures.1 (spread_agrees s gr me _ _ c.spread-pieces.ensures.spread ys room a) in cc),
       blank (λ i lt. c.blank.ensures.neutral i (omega arith))
           (record {
             labels = record { long = omega arith; rest = subst (λ (n : ℕ). drop n c.blank.new.labels ≡ drop n xs) e (c.blank.ensures.rest ∙ c.spread-pieces.ensures.rest) };

@@ -1,15 +1,18 @@
-use Rattle.std.proofs.Common.{sym, arith}
-use Rattle.carry.specs.FourDigits.{place_is_0, place_is_1, place_is_2, place_is_3}
+use Rattle.std.proofs.Common.{rules, ◌≡◌, ◌≢◌, ap, sym, ◌∙◌}
+use Rattle.std.proofs.lemmas.Iterator.{IsFirst-from_position, YieldsList-from_slice}
+use Rattle.carry.specs.Digits.{digits}
+use Rattle.carry.specs.Corners.{corner_meaning}
+use Rattle.carry.proofs.Places.{place_or, placed}
 use Rattle.carry.proofs.corner.Corner.place_of.Goals as goal
 
-pub returns-then-self-k : goal.returns-then-self-k
-returns-then-self-k c = let s = c.args.self in sym (place_is_0 s.a s.b s.c s.d c.args.k s.lawful (omega arith))
+pub returns-in-Some : goal.returns-in-Some
+returns-in-Some c =
+    let n = corner_meaning c.args.self in let k = c.args.k in
+    let first = IsFirst-from_position _ _ c.position.result (λ d. d ≡ k) (λ d. d ≢ k) c.position.ensures.ran (YieldsList-from_slice (digits n) (cc)) (λ x q k. search rules) (λ x q k. search rules) in
+    ap (place_or 3) (sym c.in-Some.is) ∙ sym (placed n k c.position.result first)
 
-pub returns-then-self-k-2 : goal.returns-then-self-k-2
-returns-then-self-k-2 c = let s = c.args.self in sym (place_is_1 s.a s.b s.c s.d c.args.k s.lawful (omega arith) (omega arith))
-
-pub returns-then-self-k-3 : goal.returns-then-self-k-3
-returns-then-self-k-3 c = let s = c.args.self in sym (place_is_2 s.a s.b s.c s.d c.args.k s.lawful (omega arith) (omega arith) (omega arith))
-
-pub returns-else-self-k-3 : goal.returns-else-self-k-3
-returns-else-self-k-3 c = let s = c.args.self in sym (place_is_3 s.a s.b s.c s.d c.args.k s.lawful (omega arith) (omega arith) (omega arith))
+pub returns-in-None : goal.returns-in-None
+returns-in-None c =
+    let n = corner_meaning c.args.self in let k = c.args.k in
+    let first = IsFirst-from_position _ _ c.position.result (λ d. d ≡ k) (λ d. d ≢ k) c.position.ensures.ran (YieldsList-from_slice (digits n) (cc)) (λ x q k. search rules) (λ x q k. search rules) in
+    ap (place_or 3) (sym c.in-None.is) ∙ sym (placed n k c.position.result first)

@@ -1,19 +1,7 @@
-use Rattle.std.proofs.Common.{sym, ap, ◌∙◌, arith}
+use Rattle.std.proofs.Common.{sym, ap, ◌∙◌}
 use Rattle.carry.specs.Digits.{number, digit, composed}
-use Rattle.carry.specs.FourDigits.{low, own_digits, two_at, numbers, moved}
+use Rattle.carry.specs.FourDigits.{own_digits, two_at, numbers, moved}
 use Rattle.carry.proofs.corner.CornerLabel.combine.Goals as goal
-
-pub digit_at-requires : goal.digit_at-requires
-digit_at-requires c = let s = c.args.self in let o = c.args.other in omega (arith, low s.a s.b s.c s.d s.lawful, low o.a o.b o.c o.d o.lawful)
-
-pub digit_at-requires-2 : goal.digit_at-requires-2
-digit_at-requires-2 c = let s = c.args.self in let o = c.args.other in omega (arith, low s.a s.b s.c s.d s.lawful, low o.a o.b o.c o.d o.lawful)
-
-pub digit_at-requires-3 : goal.digit_at-requires-3
-digit_at-requires-3 c = let s = c.args.self in let o = c.args.other in omega (arith, low s.a s.b s.c s.d s.lawful, low o.a o.b o.c o.d o.lawful)
-
-pub digit_at-requires-4 : goal.digit_at-requires-4
-digit_at-requires-4 c = let s = c.args.self in let o = c.args.other in omega (arith, low s.a s.b s.c s.d s.lawful, low o.a o.b o.c o.d o.lawful)
 
 pub invariant_of-result : goal.invariant_of-result
 invariant_of-result c =
