@@ -1,7 +1,6 @@
 //! A net that is given by a table, for the checks of carry.
 ghost use Rattle.std.specs.Prelude.{◌≡◌, ◌<◌, ◌≤◌, map, length};
-ghost use Rattle.carry.specs.declared.net.Place.{Place};
-ghost use Rattle.checks.specs.Tables.{name_at, is_place, table_web};
+ghost use Rattle.checks.specs.Tables.{name_at, table_web};
 
 use carry::{Label, Net, Place};
 
@@ -9,6 +8,7 @@ use carry::{Label, Net, Place};
 const SIDES: usize = 2;
 
 /// At most four items with two sides each, in lists that have side `s` of item `i` at `2 * i + s`.
+/// The steps are a list of their own, since the tests put several on the same joins.
 ///
 /// Two sides are joined where each names the other, so joins lead back whatever the table holds.
 #[derive(Drop)]
@@ -20,25 +20,17 @@ pub struct Table<L> {
     ghost long: { length steps ≡ 8 },
 }
 
-// The side that a side of one of `items` items names.
-fn named(items: usize, names: &[Option<Place>; 8], item: usize, side: usize) -> Option<Place>
-    requires { items ≤ 4 }
-    ensures { result ≡ name_at items names.now item side }
-{
-    if item < items && side < SIDES {
-        names[2 * item + side]
-    } else {
-        None
-    }
-}
-
-// Whether a side, if there is one, is this one.
-fn is_place(place: Option<Place>, item: usize, side: usize) -> bool
-    ensures { result ≡ is_place place item side }
-{
-    match place {
-        Some(p) => p.item == item && p.side == side,
-        None => false,
+impl<L: Label + Copy> Table<L> {
+    // The side that a side of an item names.
+    #[tactic(auto, unfolding(crate::specs::Tables::name_at))]
+    fn named(&self, item: usize, side: usize) -> Option<Place>
+        ensures { result ≡ name_at self.now.items self.now.names item side }
+    {
+        if item < self.items && side < SIDES {
+            self.names[2 * item + side]
+        } else {
+            None
+        }
     }
 }
 
@@ -58,19 +50,13 @@ impl<L: Label + Copy> Net for Table<L> {
     }
 
     fn join(&self, item: usize, side: usize) -> Option<Place> {
-        match named(self.items, &self.names, item, side) {
-            Some(p) => {
-                let back = named(self.items, &self.names, p.item, p.side);
-                if is_place(back, item, side) {
-                    Some(p)
-                } else {
-                    None
-                }
-            }
-            None => None,
-        }
+        let p = self.named(item, side)?;
+        let back = self.named(p.item, p.side)?;
+        let here = Place { item, side };
+        if back == here { Some(p) } else { None }
     }
 
+    #[tactic(auto, using(crate::proofs::TableJoins::joined_listed))]
     fn step(&self, item: usize, side: usize) -> L {
         match self.join(item, side) {
             Some(_) => self.steps[2 * item + side],

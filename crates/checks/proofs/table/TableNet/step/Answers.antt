@@ -5,21 +5,6 @@ use Rattle.checks.specs.Tables.{step_at}
 use Rattle.checks.proofs.TableJoins.{joined_listed}
 use Rattle.checks.proofs.table.TableNet.step.Goals as goal
 
-pub overflow_mul-result : goal.overflow_mul-result
-overflow_mul-result g c = let t = c.args.self.now in let l = joined_listed t.items t.names t.few c.args.item c.args.side (sym c.in-Some.ensures) in omega arith
-
-pub overflow_add-result : goal.overflow_add-result
-overflow_add-result g c = let t = c.args.self.now in let l = joined_listed t.items t.names t.few c.args.item c.args.side (sym c.in-Some.ensures) in omega arith
-
-pub offset_bounds-self-item : goal.offset_bounds-self-item
-offset_bounds-self-item g c = let t = c.args.self.now in let l = joined_listed t.items t.names t.few c.args.item c.args.side (sym c.in-Some.ensures) in omega arith
-
-pub listed : goal.listed
-listed g c = let t = c.args.self.now in let l = joined_listed t.items t.names t.few c.args.item c.args.side (sym c.in-Some.ensures) in let e = t.long in omega arith
-
-pub bounds-self-item : goal.bounds-self-item
-bounds-self-item g c = let t = c.args.self.now in joined_listed t.items t.names t.few c.args.item c.args.side (sym c.in-Some.ensures)
-
 pub returns-in-Some : goal.returns-in-Some
 returns-in-Some g c =
     let t = c.args.self.now in let i = c.args.item in let s = c.args.side in
