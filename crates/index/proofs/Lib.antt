@@ -1,3 +1,3 @@
+pub mod Orders
 pub mod Places
-pub mod Shift
 pub mod Stores

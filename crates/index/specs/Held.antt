@@ -1,6 +1,9 @@
 -- What an index holds, and what a put does to it.
 use Rattle.std.specs.Prelude.{◌≡◌, ℕ, ◌-◌, List, [], length, take, drop, Some, None, Result, ◌≢◌}
 use Rattle.std.specs.declared.cmp.Ordering.{Ordering}
+use Rattle.std.specs.declared.cmp.Ord
+use Rattle.std.specs.declared.cmp.PartialEq
+use Rattle.std.specs.declared.cmp.PartialOrd
 use Rattle.refusal.specs.declared.Refusal.{Refusal}
 use Rattle.refusal.specs.declared.Refusal.TheVariants.{ListTooShort}
 use Rattle.refusal.specs.Causes.{Outcome}
@@ -17,7 +20,8 @@ pub record Held (K : Type 0) : Type 0 where
 abbrev pub parted : {K : Type 0} → ℕ → List (Entry K) → Held K
 parted n places = record { entries = take n places; free = drop n places }
 
-abbrev pub held : {K : Type 0} → Index K → Held K
+-- what an index of keys with an order holds
+abbrev pub held : {K : Type 0} {order : Ord.Ghosts K} {equality : PartialEq.Ghosts K} {partial : PartialOrd.Ghosts K} → Index K order equality partial → Held K
 held index = parted index.taken index.places.now
 
 module _ {K : Type 0} (order : K → K → Ordering) where

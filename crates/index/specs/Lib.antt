@@ -1,8 +1,5 @@
-pub mod Orders
 pub mod Keys
 pub mod Entries
 pub mod Held
 pub mod Search
-pub mod Total
-pub mod PairKeyLemmas
-pub mod TripleKeyLemmas
+pub mod KeyLemmas

@@ -1,12 +1,8 @@
--- What the functions behind an index answer of its places.
+-- Where a key is among entries that rise.
 use Rattle.std.specs.Prelude.{◌≡◌, ℕ, ◌<◌, ◌≤◌, List, length, Ok, Err, Result, slice_index_or}
 use Rattle.std.specs.declared.cmp.Ordering.TheVariants.{Less, Equal, Greater}
 use Rattle.std.specs.declared.cmp.Ordering.{Ordering}
-use Rattle.refusal.specs.declared.Refusal.{Refusal}
-use Rattle.refusal.specs.Causes.{First, NoCause}
 use Rattle.index.specs.declared.entry.Entry.{Entry}
-use Rattle.index.specs.Entries.{Rising}
-use Rattle.index.specs.Held.{parted, PutCause, Stored}
 
 module _ {K : Type 0} (order : K → K → Ordering) where
   -- each entry before the place p has a lesser key than k
@@ -17,12 +13,7 @@ module _ {K : Type 0} (order : K → K → Ordering) where
   abbrev pub GreaterFrom : K → List (Entry K) → ℕ → Type 0
   GreaterFrom k es p = (i : ℕ) (d : Entry K) → p ≤ i → i < length es → order (slice_index_or es i d).key k ≡ Greater
 
-  -- a place of the key k, or else the place where it belongs in a list that rises
+  -- a place of the key k, or else the place where it belongs
   abbrev pub Sought : K → List (Entry K) → Result ℕ ℕ → Type 0
   Sought k es (Ok i) = (i < length es) × ((d : Entry K) → order (slice_index_or es i d).key k ≡ Equal)
-  Sought k es (Err p) = (p ≤ length es) × (Rising order es → LessBefore k es p × GreaterFrom k es p)
-
-  -- what is written to the places, of which the first len hold entries that rise, and how many then do
-  abbrev pub Written : Entry K → ℕ → List (Entry K) → Result ℕ Refusal → List (Entry K) → Type 0
-  Written e len before (Ok n) after = NoCause (PutCause order e (parted len before)) × Stored order e (parted len before) (parted n after)
-  Written e len before (Err c) after = First (PutCause order e (parted len before)) c × (after ≡ before)
+  Sought k es (Err p) = (p ≤ length es) × LessBefore k es p × GreaterFrom k es p

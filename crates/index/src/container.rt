@@ -1,23 +1,32 @@
-ghost use Rattle.std.specs.Prelude.{◌≡◌, [], length};
-ghost use Rattle.index.specs.Entries.{Rising, half_face_of};
-ghost use Rattle.index.specs.Held.{held, Put};
+ghost use Rattle.std.specs.Prelude.{◌≡◌, ◌≤◌, [], length, take};
+ghost use Rattle.index.specs.Entries.{Rising};
 
 use crate::entry::Entry;
+use crate::insert::insert;
 use crate::key::Key;
-use crate::search::{read, write};
+use crate::keys::{Pair, Triple};
 use refusal::Refusal;
 
 /// Entries that rise by key, in the first places of a borrowed list.
-///
-/// A generic struct cannot keep a fact about the order of its keys, so `find` and `put` promise what
-/// they do if the entries rose before. They rise at first, and a put keeps it.
 #[derive(Drop)]
 pub struct Index<'a, K: Key> {
     places: &'a mut [Entry<K>],
     taken: usize,
+    ghost within: { taken ≤ length places.now },
+    ghost rising: { Rising K.cmp (take taken places.now) },
 }
 
+/// The index whose keys are vertex triples.
+pub type TriangleIndex<'a> = Index<'a, Triple>;
+
+/// The index whose keys are vertex pairs.
+pub type EdgeIndex<'a> = Index<'a, Pair>;
+
 impl<'a, K: Key> Index<'a, K> {
+    ghost use Rattle.index.specs.Entries.{half_face_of};
+    ghost use Rattle.index.specs.Held.{held, Put};
+    ghost use Rattle.index.specs.Search.{Sought};
+
     /// An index with no entries over the places.
     pub fn over(places: &'a mut [Entry<K>]) -> Index<'a, K>
         ensures { held result ≡ record { entries = []; free = places.old } }
@@ -29,32 +38,46 @@ impl<'a, K: Key> Index<'a, K> {
     pub fn len(&self) -> usize
         ensures { result ≡ length (held self.now).entries }
     {
-        // nothing keeps the count within the places, so it is cut there
-        self.taken.min(self.places.len())
+        self.taken
     }
 
     /// The entries, in order.
     pub fn entries(&self) -> &[Entry<K>]
         ensures { result.now ≡ (held self.now).entries }
     {
-        &self.places[0..self.len()]
+        &self.places[..self.taken]
+    }
+
+    // The place of the key, or else the place where it belongs.
+    fn search(&self, key: K) -> Result<usize, usize>
+        ensures { Sought K.cmp key (held self.now).entries result }
+    {
+        self.entries().binary_search_by_key(&key, |entry| entry.key)
     }
 
     /// The half-face beside the key, or none where no entry has the key.
     pub fn find(&self, key: K) -> Option<u16>
-        ensures { Rising K.Key.order (held self.now).entries → result ≡ half_face_of K.Key.order key (held self.now).entries }
+        ensures { result ≡ half_face_of K.cmp key (held self.now).entries }
     {
-        read(self.places, self.len(), key)
+        let at = self.search(key).ok()?;
+        Some(self.places[at].half_face)
     }
 
     /// Puts the entry into its place, in place of one of an equal key. A new key with no place free is
     /// refused with `ListTooShort`, and nothing is written.
     pub fn put(&mut self, entry: Entry<K>) -> Result<(), Refusal>
-        ensures { Rising K.Key.order (held self.old).entries → Put K.Key.order entry (held self.old) result (held self.new) }
+        ensures { Put K.cmp entry (held self.old) result (held self.new) }
     {
-        let len = self.len();
-        let Entry { key, half_face } = entry;
-        self.taken = write(self.places, len, key, half_face)?;
+        match self.search(entry.key) {
+            Ok(at) => self.places[at] = entry,
+            Err(at) => {
+                if self.taken == self.places.len() {
+                    return Err(Refusal::ListTooShort);
+                }
+                insert(self.places, at, self.taken, entry);
+                self.taken += 1;
+            }
+        }
         Ok(())
     }
 }

@@ -1,16 +1,7 @@
 ghost use Rattle.std.specs.Prelude.{◌≡◌};
-ghost use Rattle.std.specs.declared.cmp.Ordering.{Ordering};
-ghost use Rattle.index.specs.Orders.{TotalOrder};
+ghost use Rattle.std.specs.declared.cmp.Ordering.TheVariants.{Equal};
 
-use std::cmp::Ordering;
-
-/// A kind of key with a total order.
-pub trait Key: Copy {
-    ghost order: { Self → Self → Ordering };
-
-    /// How the key stands to another.
-    fn compare(self, other: Self) -> Ordering
-        ensures { result ≡ order self other };
-
-    ghost total: { TotalOrder order };
+/// A kind of key with a total order, in which a key is equal to itself alone.
+pub trait Key: Ord + Copy {
+    ghost identical: { (x y : Self) → Self.cmp x y ≡ Equal → x ≡ y };
 }

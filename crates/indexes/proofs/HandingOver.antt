@@ -1,15 +1,13 @@
 -- Entries that rise, put one after another into an index that has none.
-use Rattle.std.proofs.Common.{◌≡◌, ℕ, ◌+◌, ◌-◌, ◌<◌, ◌≤◌, List, [], ◌∷◌, ◌++◌, length, get_or, take, drop, Result, Ordering, sym, ap, ◌∙◌, subst, arith, length-drop}
+use Rattle.std.proofs.Common.{◌≡◌, ℕ, ◌+◌, ◌-◌, ◌<◌, ◌≤◌, List, [], ◌∷◌, ◌++◌, length, get_or, take, drop, Ordering, sym, ap, ◌∙◌, subst, arith, length-drop}
 use Rattle.std.proofs.lemmas.List.{length-take-le, get_or-take, get_or_default, take_more, take_all, drop-drop}
-use Rattle.refusal.specs.declared.Refusal.{Refusal}
 use Rattle.index.specs.declared.entry.Entry.{Entry}
-use Rattle.index.specs.Orders.{TotalOrder}
+use Rattle.index.proofs.Orders.{TotalOrder}
 use Rattle.index.specs.Entries.{Rising, put_in}
 use Rattle.index.specs.Search.{LessBefore}
-use Rattle.index.specs.Held.{Held, Put, Stored}
+use Rattle.index.specs.Held.{Held, Stored}
 use Rattle.index.proofs.Places.{rising_apart}
 use Rattle.indexes.proofs.Lookups.{put_last}
-use Rattle.indexes.proofs.Offers.{stored}
 
 -- the first n of the entries es stand in the first places, and the other places are as they were
 abbrev pub Handed : {K : Type 0} → List (Entry K) → List (Entry K) → ℕ → Held K → Type 0
@@ -19,10 +17,12 @@ pub held_is : {K : Type 0} (h : Held K) (es fs : List (Entry K)) → h.entries �
 held_is {K} h es fs p q = ap (λ (z : List (Entry K)). record { entries = z; free = h.free }) p ∙ ap (λ (z : List (Entry K)). record { entries = es; free = z }) q
 
 module _ {K : Type 0} {order : K → K → Ordering} (total : TotalOrder order) (es places : List (Entry K)) (rising : Rising order es) (i : ℕ) (within : i < length es) (fits : length es ≤ length places) where
-  pub one_more : (e : Entry K) (r : Result Unit Refusal) (before after : Held K) → e ≡ get_or es i e → Handed es places i before → Put order e before r after → Handed es places (i + 1) after
-  one_more e r before after is h p =
-      let room : 0 < length before.free = omega (arith, ap (λ (z : Held K). length z.free) h, length-drop i places) in
-      let s : Stored order e before after = stored total e before after r room p in
+  -- there is room for one more
+  pub room : (before : Held K) → Handed es places i before → 0 < length before.free
+  room before h = omega (arith, ap (λ (z : Held K). length z.free) h, length-drop i places)
+
+  pub one_more : (e : Entry K) (before after : Held K) → e ≡ get_or es i e → Handed es places i before → Stored order e before after → Handed es places (i + 1) after
+  one_more e before after is h s =
       let many : length (take i es) ≡ i = length-take-le i es (omega arith) in
       let less : LessBefore order e.key (take i es) (length (take i es)) = λ j d l.
       let m : j < i = omega arith in

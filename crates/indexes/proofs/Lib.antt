@@ -1,9 +1,9 @@
-mod Orders
 mod Lookups
 mod Offers
 mod HandingOver
 mod Outcomes
 mod HalfFaces
 mod Rules
+mod Sorting
 mod Triangles
 mod EdgePairs

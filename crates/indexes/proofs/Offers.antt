@@ -1,8 +1,9 @@
 -- What an index holds after a half-face was offered for a key.
-use Rattle.std.proofs.Common.{◌≡◌, ℕ, ◌+◌, ◌-◌, ◌<◌, ◌≤◌, ◌⊎◌, List, [], length, Some, None, Ok, Err, Option, Result, Ordering, sym, refl, ap, ◌∙◌, subst, inl, inr, ⊎_elim, arith, length-drop}
+use Rattle.std.proofs.Common.{◌≡◌, ℕ, ◌+◌, ◌-◌, ◌<◌, ◌≤◌, ◌⊎◌, List, [], length, Some, None, Ok, Err, Option, Result, Ordering, sym, refl, ap, ◌∙◌, subst, inl, inr, ⊎_elim, arith, rules, length-drop}
+use Rattle.std.specs.Result.{IsOk}
 use Rattle.refusal.specs.declared.Refusal.{Refusal}
 use Rattle.index.specs.declared.entry.Entry.{Entry}
-use Rattle.index.specs.Orders.{TotalOrder}
+use Rattle.index.proofs.Orders.{TotalOrder}
 use Rattle.index.specs.Entries.{half_face_of}
 use Rattle.index.specs.Held.{Held, Put, Stored}
 use Rattle.index.proofs.Stores.{why_refused}
@@ -10,12 +11,17 @@ use Rattle.indexes.specs.Lists.{Names}
 use Rattle.indexes.specs.Gathered.{Finds, Gathered, Chosen, Offered}
 use Rattle.indexes.proofs.Lookups.{same_or_not, put_length}
 
-module _ {K : Type 0} {order : K → K → Ordering} (total : TotalOrder order) where
+module _ {K : Type 0} (order : K → K → Ordering) (e : Entry K) (before after : Held K) where
   -- where a place is free, a put is not refused
-  pub stored : (e : Entry K) (before after : Held K) (r : Result Unit Refusal) → 0 < length before.free → Put order e before r after → Stored order e before after
-  stored e before after (Ok u) l p = p.1
-  stored e before after (Err c) l p = absurd (omega (arith, ap length (why_refused c p.0.applies).2))
+  pub not_refused : (r : Result Unit Refusal) → 0 < length before.free → Put order e before r after → IsOk r
+  not_refused (Ok u) l p = search rules
+  not_refused (Err c) l p = absurd (omega (arith, ap length (why_refused c p.0.applies).2))
 
+  -- and the entry is in it
+  pub stored : (r : Result Unit Refusal) (u : Unit {0}) → r ≡ Ok u → Put order e before r after → Stored order e before after
+  stored r u is p = (subst (λ (r : Result Unit Refusal). Put order e before r after) is p).1
+
+module _ {K : Type 0} {order : K → K → Ordering} (total : TotalOrder order) where
   pub room_left : (e : Entry K) (before after : Held K) → Stored order e before after → length before.free ≤ length after.free + 1
   room_left e before after s =
       omega (arith, ap length s.free, length-drop (length after.entries - length before.entries) before.free, ap length s.entries, put_length total e before.entries)

@@ -1,15 +1,14 @@
 //! The face index: each triangle with its lowest half-face.
-ghost use Rattle.std.specs.Prelude.{◌≡◌, ◌+◌, ◌*◌, ◌<◌, ◌≤◌, [], length};
+ghost use Rattle.std.specs.Prelude.{◌+◌, ◌<◌, ◌≤◌, length};
 ghost use Rattle.rules.specs.Joins.{Half, LawfulRows};
 ghost use Rattle.ground.specs.Grounds.{plain_sealed};
-ghost use Rattle.index.specs.Entries.{Rising};
 ghost use Rattle.index.specs.Held.{held};
-ghost use Rattle.index.specs.Keys.{triple_order};
 ghost use Rattle.indexes.specs.Lists.{Makes};
 ghost use Rattle.indexes.specs.Faces.{OnTriangle, FaceEntries};
-ghost use Rattle.indexes.specs.Gathered.{FacesBefore, HandedOver};
+ghost use Rattle.indexes.specs.Gathered.{FacesBefore};
 
 use crate::halves::vertices;
+use crate::handing::hand_over;
 use crate::keys::rising_triple;
 use ground::Sealed;
 use index::{Entry, TriangleIndex, Triple};
@@ -19,48 +18,30 @@ use refusal::Refusal;
 fn put_face(ground: &Sealed, h: u16, index: &mut TriangleIndex)
     requires lawful { LawfulRows (plain_sealed ground.now).list }
     requires half { Half (plain_sealed ground.now).list h }
-    requires room { 0 < length (held index.old.index).free }
-    requires gathered { FacesBefore (plain_sealed ground.now).list h (held index.old.index).entries }
-    ensures gathered { FacesBefore (plain_sealed ground.now).list (h + 1) (held index.new.index).entries }
-    ensures room { length (held index.old.index).free ≤ length (held index.new.index).free + 1 }
+    requires room { 0 < length (held index.old).free }
+    requires gathered { FacesBefore (plain_sealed ground.now).list h (held index.old).entries }
+    ensures gathered { FacesBefore (plain_sealed ground.now).list (h + 1) (held index.new).entries }
+    ensures room { length (held index.old).free ≤ length (held index.new).free + 1 }
     ensures on { (k : Triple) × OnTriangle (plain_sealed ground.now).list k h }
 {
     let [a, b, c] = vertices(ground, h);
     let key = rising_triple(a, b, c);
     if index.find(key).is_none() {
-        let _ = index.put(Entry { key, half_face: h });
+        index.put(Entry { key, half_face: h }).unwrap();
     }
 }
 
-// Puts the triangles of all half-faces.
-fn gather_faces(ground: &Sealed, index: &mut TriangleIndex)
-    requires { ((held index.old.index).entries ≡ []) × (4096 ≤ length (held index.old.index).free) }
-    ensures { FaceEntries (plain_sealed ground.now).list (held index.new.index).entries }
+// The index of all triangles, over free places.
+fn gather_faces<'a>(ground: &Sealed, places: &'a mut [Entry<Triple>]) -> TriangleIndex<'a>
+    requires { 4096 ≤ length places.old }
+    ensures { FaceEntries (plain_sealed ground.now).list (held result).entries }
 {
+    let mut index = TriangleIndex::over(places);
     let half_faces = 4 * ground.counts().cells;
     for h in 0..half_faces {
-        put_face(ground, h, index);
+        put_face(ground, h, &mut index);
     }
-}
-
-// Puts the entries into an index that has none, if they fit into its places.
-fn hand_over(
-    entries: &[Entry<Triple>],
-    room: usize,
-    index: &mut TriangleIndex,
-) -> Result<usize, Refusal>
-    requires rising { Rising triple_order entries.now }
-    requires none { (held index.old.index).entries ≡ [] }
-    requires room { room ≡ length (held index.old.index).free }
-    ensures { HandedOver entries.now (held index.old.index) result (held index.new.index) }
-{
-    if room < entries.len() {
-        return Err(Refusal::ListTooShort);
-    }
-    for entry in entries {
-        let _ = index.put(*entry);
-    }
-    Ok(entries.len())
+    index
 }
 
 /// The face index of the ground over the places: for each triangle its vertices in rising order, and
@@ -69,11 +50,9 @@ fn hand_over(
 pub fn face_index<'p>(
     ground: &Sealed,
     places: &'p mut [Entry<Triple>],
-    answer: &mut Result<usize, Refusal>,
-) -> TriangleIndex<'p>
-    ensures { Makes (FaceEntries (plain_sealed ground.now).list) places.old answer.new (held result.index) }
+) -> (TriangleIndex<'p>, Result<usize, Refusal>)
+    ensures { Makes (FaceEntries (plain_sealed ground.now).list) places.old result.1 (held result.0) }
 {
-    // Each half-face puts one entry at most, and a ground has 4,096 of them at most.
     let free = Entry {
         key: Triple {
             first: 0,
@@ -82,11 +61,8 @@ pub fn face_index<'p>(
         },
         half_face: 0,
     };
+    // Each half-face puts one entry at most, and a ground has 4,096 of them at most.
     let mut own = [free; 4096];
-    let mut gathered = TriangleIndex::over(&mut own);
-    gather_faces(ground, &mut gathered);
-    let room = places.len();
-    let mut index = TriangleIndex::over(places);
-    *answer = hand_over(gathered.entries(), room, &mut index);
-    index
+    let gathered = gather_faces(ground, &mut own);
+    hand_over(gathered.entries(), places)
 }

@@ -10,16 +10,9 @@ pub(crate) fn rising_pair(a: u16, b: u16) -> Pair
     ensures rising { result.first < result.second }
     ensures both { ((result.first ≡ a) × (result.second ≡ b)) ⊎ ((result.first ≡ b) × (result.second ≡ a)) }
 {
-    if a < b {
-        Pair {
-            first: a,
-            second: b,
-        }
-    } else {
-        Pair {
-            first: b,
-            second: a,
-        }
+    Pair {
+        first: a.min(b),
+        second: a.max(b),
     }
 }
 
@@ -28,24 +21,12 @@ pub(crate) fn rising_triple(a: u16, b: u16, c: u16) -> Triple
     requires { (a ≢ b) × (b ≢ c) × (a ≢ c) }
     ensures { Sorts (record { p = a; q = b; r = c }) result }
 {
-    let Pair { first, second } = rising_pair(a, b);
-    if c < first {
-        Triple {
-            first: c,
-            second: first,
-            third: second,
-        }
-    } else if c < second {
-        Triple {
-            first,
-            second: c,
-            third: second,
-        }
-    } else {
-        Triple {
-            first,
-            second,
-            third: c,
-        }
+    let mut vertices = [a, b, c];
+    vertices.sort_unstable();
+    let [first, second, third] = vertices;
+    Triple {
+        first,
+        second,
+        third,
     }
 }

@@ -4,6 +4,7 @@
 mod edges;
 mod faces;
 mod halves;
+mod handing;
 mod keys;
 mod rule;
 

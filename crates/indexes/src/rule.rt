@@ -13,15 +13,9 @@ pub struct Side {
 pub fn stands(held: Side, other: Side) -> Side
     ensures { Stands held other result }
 {
-    if held.is_open == other.is_open {
-        if other.half_face < held.half_face {
-            other
-        } else {
-            held
-        }
-    } else if held.is_open {
-        held
-    } else {
+    if (!other.is_open, other.half_face) < (!held.is_open, held.half_face) {
         other
+    } else {
+        held
     }
 }

@@ -17,12 +17,9 @@ pub(crate) fn find_face(ground: &Sealed, key: Triple, places: usize) -> Result<O
     ensures { TellsFound (FaceEntries (plain_sealed ground.now).list) triple_order key places result }
 {
     let mut own = [Entry { key, half_face: 0 }; 4096];
-    let mut answer = Ok(0);
-    let index = face_index(ground, &mut own[..places], &mut answer);
-    match answer {
-        Ok(_) => Ok(index.find(key)),
-        Err(refusal) => Err(refusal),
-    }
+    let (index, answer) = face_index(ground, &mut own[..places]);
+    answer?;
+    Ok(index.find(key))
 }
 
 // The half-face of the edge in the edge index, which is made over so many places.
@@ -31,10 +28,7 @@ pub(crate) fn find_edge(ground: &Sealed, key: Pair, places: usize) -> Result<Opt
     ensures { TellsFound (EdgeEntries (plain_sealed ground.now).list) pair_order key places result }
 {
     let mut own = [Entry { key, half_face: 0 }; 12288];
-    let mut answer = Ok(0);
-    let index = edge_index(ground, &mut own[..places], &mut answer);
-    match answer {
-        Ok(_) => Ok(index.find(key)),
-        Err(refusal) => Err(refusal),
-    }
+    let (index, answer) = edge_index(ground, &mut own[..places]);
+    answer?;
+    Ok(index.find(key))
 }

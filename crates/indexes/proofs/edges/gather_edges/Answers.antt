@@ -1,9 +1,9 @@
-use Rattle.std.proofs.Common.{arith}
+use Rattle.std.proofs.Common.{◌≤◌, length, ap, arith}
 use Rattle.ground.specs.Grounds.{plain_sealed}
-use Rattle.index.specs.Held.{held}
+use Rattle.index.specs.Held.{Held, held}
 use Rattle.indexes.specs.Edges.{OnEdge, RatherHalf}
 use Rattle.indexes.specs.Gathered.{Before}
-use Rattle.indexes.proofs.Orders.{pair_total}
+use Rattle.index.proofs.Orders.{pair_total}
 use Rattle.indexes.proofs.Lookups.{one_each}
 use Rattle.indexes.proofs.Offers.{gathered_none, gathered_as}
 use Rattle.indexes.proofs.HalfFaces.{few_cells}
@@ -27,15 +27,17 @@ loop-h-preserved c = (c.put_edges.ensures.gathered, omega (arith, c.put_edges.en
 
 pub loop-h-init : goal.loop-h-init
 loop-h-init c =
-    let rs = (plain_sealed c.args.ground.now).list in (
-      gathered_none pair_total (Before (OnEdge rs) 0) (RatherHalf rs) (held c.args.index.now.index).entries c.requires.0 (λ k g p. let l = p.1 in omega arith),
-      omega (arith, c.requires.1),
+    let rs = (plain_sealed c.args.ground.now).list in
+    let e = c.over-index.ensures in
+    let free : 12288 ≤ length (held c.over-index.result).free = omega (arith, c.requires, ap (λ (h : Held _). length h.free) e) in (
+      gathered_none pair_total (Before (OnEdge rs) 0) (RatherHalf rs) (held c.over-index.result).entries (ap (λ (h : Held _). h.entries) e) (λ k g p. let l = p.1 in omega arith),
+      omega (arith, free),
     )
 
 pub returns : goal.returns
 returns c =
     let rs = (plain_sealed c.args.ground.now).list in
     let cells = c.counts-half_faces.ensures.counted.cells in
-    one_each pair_total (held c.loop-h.index.index).entries c.loop-h.index.rising
+    one_each pair_total (held c.loop-h.index).entries c.loop-h.index.rising
     (gathered_as pair_total (Before (OnEdge rs) c.loop-h.h) (OnEdge rs) (RatherHalf rs) (λ k g p. p.0) (λ k g p. let l = p.0 in (p, omega arith))
-    (held c.loop-h.index.index).entries c.loop-h.invariant.0)
+    (held c.loop-h.index).entries c.loop-h.invariant.0)

@@ -6,5 +6,5 @@ use Rattle.indexes.proofs.edges.gather_edges.Given as goal
 
 abbrev pub invariant-loop-h : goal.invariant-loop-h
 invariant-loop-h l =
-    EdgesBefore (plain_sealed l.ground).list l.h (held l.index.index).entries
-    × (12288 ≤ length (held l.index.index).free + 3 * l.h)
+    EdgesBefore (plain_sealed l.ground).list l.h (held l.index).entries
+    × (12288 ≤ length (held l.index).free + 3 * l.h)

@@ -4,8 +4,8 @@ use Rattle.index.specs.Held.{held, Stored}
 use Rattle.index.specs.Keys.{pair_order}
 use Rattle.indexes.specs.Edges.{RatherHalf}
 use Rattle.indexes.specs.Gathered.{Chosen}
-use Rattle.indexes.proofs.Orders.{pair_total}
-use Rattle.indexes.proofs.Offers.{stored, room_left, put_offered}
+use Rattle.index.proofs.Orders.{pair_total}
+use Rattle.indexes.proofs.Offers.{not_refused, stored, room_left, put_offered}
 use Rattle.indexes.proofs.EdgePairs.{chosen_side}
 use Rattle.indexes.proofs.edges.put_edge.Goals as goal
 use Rattle.indexes.proofs.edges.put_edge.Goals.{in-None, in-Some}
@@ -13,12 +13,15 @@ use Rattle.indexes.proofs.edges.put_edge.Goals.{in-None, in-Some}
 pub side-requires : goal.side-requires
 side-requires c = c.requires.found c.in-Some.held (sym c.find.ensures ∙ c.in-Some.is)
 
+pub unwrap-requires : goal.unwrap-requires
+unwrap-requires c = not_refused pair_order _ (held c.args.index.now) (held c.put.new.self) c.put.result c.requires.room c.put.ensures
+
 pub returns : goal.returns
 returns c =
     let rs = (plain_sealed c.args.ground.now).list in
-    let before = held c.args.index.now.index in
-    let after = held c.put.new.self.index in
-    let s : Stored pair_order (record { key = c.args.key; half_face = c.match-find.half_face }) before after = stored pair_total _ before after c.put.result c.requires.room c.put.ensures in
+    let before = held c.args.index.now in
+    let after = held c.put.new.self in
+    let s : Stored pair_order (record { key = c.args.key; half_face = c.match-find.half_face }) before after = stored pair_order _ before after c.put.result c.unwrap.result c.unwrap.ensures c.put.ensures in
     let found : Chosen (RatherHalf rs) c.find.result c.args.h c.match-find.half_face =
     elim c.match-find.branch [
       | in-None w ↦ subst (λ (o : Option ℕ). Chosen (RatherHalf rs) o c.args.h c.match-find.half_face) (sym w.in-None.is) w.half_face-is

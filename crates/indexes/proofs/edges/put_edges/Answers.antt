@@ -14,7 +14,7 @@ returns c =
     (record { low = c.rising_pair-3.ensures.rising; both = c.rising_pair-3.ensures.both }) in
     record {
       gathered = passed rs c.args.h c.requires.half c.rising_pair.result c.rising_pair-2.result c.rising_pair-3.result three
-          (held c.args.index.now.index).entries (held c.put_edge.new.index.index).entries (held c.put_edge-2.new.index.index).entries (held c.put_edge-3.new.index.index).entries
+          (held c.args.index.now).entries (held c.put_edge.new.index).entries (held c.put_edge-2.new.index).entries (held c.put_edge-3.new.index).entries
           c.requires.gathered c.put_edge.ensures.offered c.put_edge-2.ensures.offered c.put_edge-3.ensures.offered;
       room = omega (arith, c.put_edge.ensures.room, c.put_edge-2.ensures.room, c.put_edge-3.ensures.room);
     }

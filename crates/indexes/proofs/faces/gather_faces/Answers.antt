@@ -1,9 +1,9 @@
-use Rattle.std.proofs.Common.{◌≤◌, arith, below_more}
+use Rattle.std.proofs.Common.{◌≤◌, length, ap, arith, below_more}
 use Rattle.ground.specs.Grounds.{plain_sealed}
-use Rattle.index.specs.Held.{held}
+use Rattle.index.specs.Held.{Held, held}
 use Rattle.indexes.specs.Faces.{OnTriangle}
 use Rattle.indexes.specs.Gathered.{Before}
-use Rattle.indexes.proofs.Orders.{triple_total}
+use Rattle.index.proofs.Orders.{triple_total}
 use Rattle.indexes.proofs.Lookups.{one_each}
 use Rattle.indexes.proofs.Offers.{gathered_none, gathered_as}
 use Rattle.indexes.proofs.HalfFaces.{few_cells}
@@ -30,11 +30,14 @@ loop-h-preserved c = (
 )
 
 pub loop-h-init : goal.loop-h-init
-loop-h-init c = (
-  gathered_none triple_total (Before (OnTriangle (plain_sealed c.args.ground.now).list) 0) (λ x g. x ≤ g) (held c.args.index.now.index).entries c.requires.0 (λ k g p. let l = p.1 in omega arith),
-  omega (arith, c.requires.1),
-  λ g l. absurd (omega arith),
-)
+loop-h-init c =
+    let rs = (plain_sealed c.args.ground.now).list in
+    let e = c.over-index.ensures in
+    let free : 4096 ≤ length (held c.over-index.result).free = omega (arith, c.requires, ap (λ (h : Held _). length h.free) e) in (
+      gathered_none triple_total (Before (OnTriangle rs) 0) (λ x g. x ≤ g) (held c.over-index.result).entries (ap (λ (h : Held _). h.entries) e) (λ k g p. let l = p.1 in omega arith),
+      omega (arith, free),
+      λ g l. absurd (omega arith),
+    )
 
 pub returns : goal.returns
 returns c =
@@ -42,7 +45,7 @@ returns c =
     let cells = c.counts-half_faces.ensures.counted.cells in
     record {
       each = λ h l. c.loop-h.invariant.2 h (omega arith);
-      entries = one_each triple_total (held c.loop-h.index.index).entries c.loop-h.index.rising
+      entries = one_each triple_total (held c.loop-h.index).entries c.loop-h.index.rising
           (gathered_as triple_total (Before (OnTriangle rs) c.loop-h.h) (OnTriangle rs) (λ x g. x ≤ g) (λ k g p. p.0) (λ k g p. let l = p.0 in (p, omega arith))
-          (held c.loop-h.index.index).entries c.loop-h.invariant.0);
+          (held c.loop-h.index).entries c.loop-h.invariant.0);
     }

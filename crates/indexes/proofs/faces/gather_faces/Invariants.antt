@@ -8,6 +8,6 @@ use Rattle.indexes.proofs.faces.gather_faces.Given as goal
 
 abbrev pub invariant-loop-h : goal.invariant-loop-h
 invariant-loop-h l =
-    FacesBefore (plain_sealed l.ground).list l.h (held l.index.index).entries
-    × (4096 ≤ length (held l.index.index).free + l.h)
+    FacesBefore (plain_sealed l.ground).list l.h (held l.index).entries
+    × (4096 ≤ length (held l.index).free + l.h)
     × ((g : ℕ) → g < l.h → (k : Triple) × OnTriangle (plain_sealed l.ground).list k g)

@@ -1,15 +1,25 @@
-use Rattle.std.proofs.Common.{◌≡◌, ℕ, List, take, ap, ◌∙◌, subst, arith, length-take}
+use Rattle.std.proofs.Common.{Some, take, sym, ap, ◌∙◌, subst, arith, length-take}
+use Rattle.std.proofs.lemmas.List.{get_or-take}
 use Rattle.index.specs.declared.entry.Entry.{Entry}
-use Rattle.index.specs.Entries.{Rising, half_face_of}
-use Rattle.index.proofs.Stores.{take_within}
+use Rattle.index.proofs.Places.{LooksUp, looked_up}
 use Rattle.index.proofs.container.Index.find.Goals as goal
+use Rattle.index.proofs.container.Index.find.Goals.{After-ok}
 
-pub read-requires : goal.read-requires
-read-requires g c = omega (arith, length-take c.args.self.now.taken c.args.self.now.places.now)
+looked : (g : _) (c : After-ok g) → LooksUp g.K.Ord.cmp c.args.key (take c.args.self.now.taken c.args.self.now.places.now) c.ok.result
+looked g c =
+    let es = take c.args.self.now.taken c.args.self.now.places.now in
+    subst (LooksUp g.K.Ord.cmp c.args.key es) (sym c.ok.ensures.value)
+    (looked_up (record { laws = g.met.K.Ord.total; equal_only = g.met.K.Key.identical }) c.args.key es c.args.self.now.rising c.search.result c.search.ensures)
+
+pub returns-in_err-at : goal.returns-in_err-at
+returns-in_err-at g c =
+    c.from_residual.ensures
+    ∙ sym (subst (LooksUp g.K.Ord.cmp c.args.key (take c.args.self.now.taken c.args.self.now.places.now)) c.in_err-at.was (looked g (goal.at.returns-in_err-at g c).After-ok))
 
 pub returns : goal.returns
 returns g c =
-    let o = g.K.Key.order in
     let ps = c.args.self.now.places.now in
-    subst (λ (es : List (Entry _)). Rising o es → c.read.result ≡ half_face_of o c.args.key es)
-    (ap (λ (n : ℕ). take n ps) c.len.ensures ∙ take_within c.args.self.now.taken ps) c.read.ensures
+    let s = subst (LooksUp g.K.Ord.cmp c.args.key (take c.args.self.now.taken ps)) c.in_ok-at.was (looked g (goal.at.returns g c).After-ok) in
+    let d = c.index-self-at.result in
+    ap (λ (e : Entry _). Some e.half_face) (sym (get_or-take c.args.self.now.taken ps c.in_ok-at.at d (omega (arith, s.0, length-take c.args.self.now.taken ps))))
+    ∙ sym (s.1 d)
