@@ -42,12 +42,13 @@ fn lay_all(rt: &impl Abort, ground: &mut Open, rows: &[[u16; 4]]) {
 fn a_ground_without_cells_has_no_entries(rt: HostRuntime) {
     let mut cells = [Cell::free(); 1];
     let ground = make(&mut cells).seal();
-    let mut answer = Ok(7);
     let mut places = [face(9, 9, 9, 9); 0];
-    assert_eq!(rt; face_index(&ground, &mut places, &mut answer).len(), 0);
+    let (index, answer) = face_index(&ground, &mut places);
+    assert_eq!(rt; index.len(), 0);
     assert_eq!(rt; answer, Ok(0));
     let mut places = [edge(9, 9, 9); 2];
-    assert_eq!(rt; edge_index(&ground, &mut places, &mut answer).len(), 0);
+    let (index, answer) = edge_index(&ground, &mut places);
+    assert_eq!(rt; index.len(), 0);
     assert_eq!(rt; answer, Ok(0));
     assert_eq!(rt; places, [edge(9, 9, 9); 2]);
 }
@@ -58,9 +59,8 @@ fn one_cell_has_four_triangles(rt: HostRuntime) {
     let mut ground = make(&mut cells);
     lay_all(&rt, &mut ground, &[[0, 1, 2, 3]]);
     let ground = ground.seal();
-    let mut answer = Ok(0);
     let mut places = [face(9, 9, 9, 9); 5];
-    let index = face_index(&ground, &mut places, &mut answer);
+    let (index, answer) = face_index(&ground, &mut places);
     assert_eq!(rt; answer, Ok(4));
     assert_eq!(rt; index.find(triple(0, 2, 3)), Some(1));
     assert_eq!(rt; index.find(triple(0, 3, 2)), None);
@@ -82,9 +82,8 @@ fn one_cell_has_six_edges(rt: HostRuntime) {
     let mut ground = make(&mut cells);
     lay_all(&rt, &mut ground, &[[3, 1, 0, 2]]);
     let ground = ground.seal();
-    let mut answer = Ok(0);
     let mut places = [edge(9, 9, 9); 7];
-    let index = edge_index(&ground, &mut places, &mut answer);
+    let (index, answer) = edge_index(&ground, &mut places);
     assert_eq!(rt; answer, Ok(6));
     assert_eq!(rt; index.find(pair(0, 2)), Some(0));
     assert_eq!(rt; index.find(pair(2, 0)), None);
@@ -108,9 +107,8 @@ fn a_joined_triangle_has_its_lower_half_face(rt: HostRuntime) {
     let mut ground = make(&mut cells);
     lay_all(&rt, &mut ground, &[[0, 1, 2, 3], [1, 2, 3, 4]]);
     let ground = ground.seal();
-    let mut answer = Ok(0);
     let mut places = [face(9, 9, 9, 9); 7];
-    let index = face_index(&ground, &mut places, &mut answer);
+    let (index, answer) = face_index(&ground, &mut places);
     assert_eq!(rt; answer, Ok(7));
     assert_eq!(rt;
         index.entries(),
@@ -134,9 +132,8 @@ fn an_edge_has_an_open_half_face_before_a_lower_joined_one(rt: HostRuntime) {
     let mut ground = make(&mut cells);
     lay_all(&rt, &mut ground, &[[0, 1, 2, 3], [1, 2, 3, 4]]);
     let ground = ground.seal();
-    let mut answer = Ok(0);
     let mut places = [edge(9, 9, 9); 9];
-    let index = edge_index(&ground, &mut places, &mut answer);
+    let (index, answer) = edge_index(&ground, &mut places);
     assert_eq!(rt; answer, Ok(9));
     assert_eq!(rt;
         index.entries(),
@@ -161,14 +158,13 @@ fn two_cells_that_share_an_edge_share_no_triangle(rt: HostRuntime) {
     let mut ground = make(&mut cells);
     lay_all(&rt, &mut ground, &[[0, 1, 4, 5], [0, 1, 2, 3]]);
     let ground = ground.seal();
-    let mut answer = Ok(0);
     let mut faces = [face(9, 9, 9, 9); 8];
-    let index = face_index(&ground, &mut faces, &mut answer);
+    let (index, answer) = face_index(&ground, &mut faces);
     assert_eq!(rt; answer, Ok(8));
     assert_eq!(rt; index.find(triple(0, 1, 2)), Some(7));
     assert_eq!(rt; index.find(triple(0, 1, 4)), Some(3));
     let mut edges = [edge(9, 9, 9); 11];
-    let index = edge_index(&ground, &mut edges, &mut answer);
+    let (index, answer) = edge_index(&ground, &mut edges);
     assert_eq!(rt; answer, Ok(11));
     assert_eq!(rt; index.find(pair(0, 1)), Some(2));
     assert_eq!(rt; index.find(pair(2, 3)), Some(4));
@@ -185,9 +181,8 @@ fn an_inner_edge_has_its_lowest_half_face(rt: HostRuntime) {
         &[[0, 1, 2, 3], [0, 1, 3, 4], [0, 1, 4, 2]],
     );
     let ground = ground.seal();
-    let mut answer = Ok(0);
     let mut places = [edge(9, 9, 9); 10];
-    let index = edge_index(&ground, &mut places, &mut answer);
+    let (index, answer) = edge_index(&ground, &mut places);
     assert_eq!(rt; answer, Ok(10));
     assert_eq!(rt; index.find(pair(0, 1)), Some(2));
     assert_eq!(rt; index.find(pair(1, 2)), Some(0));
@@ -200,14 +195,14 @@ fn a_list_that_is_one_place_short_is_refused_and_kept(rt: HostRuntime) {
     let mut ground = make(&mut cells);
     lay_all(&rt, &mut ground, &[[0, 1, 2, 3]]);
     let ground = ground.seal();
-    let mut answer = Ok(0);
     let mut faces = [face(9, 9, 9, 9); 3];
-    assert_eq!(rt; face_index(&ground, &mut faces, &mut answer).len(), 0);
+    let (index, answer) = face_index(&ground, &mut faces);
+    assert_eq!(rt; index.len(), 0);
     assert_eq!(rt; answer, Err(Refusal::ListTooShort));
     assert_eq!(rt; faces, [face(9, 9, 9, 9); 3]);
-    let mut answer = Ok(0);
     let mut edges = [edge(9, 9, 9); 5];
-    assert_eq!(rt; edge_index(&ground, &mut edges, &mut answer).len(), 0);
+    let (index, answer) = edge_index(&ground, &mut edges);
+    assert_eq!(rt; index.len(), 0);
     assert_eq!(rt; answer, Err(Refusal::ListTooShort));
     assert_eq!(rt; edges, [edge(9, 9, 9); 5]);
 }
@@ -221,13 +216,12 @@ fn the_largest_ground_has_its_indexes(rt: HostRuntime) {
         assert!(rt; ground.lay(t, t + 1, t + 2, t + 3).is_ok());
     }
     let ground = ground.seal();
-    let mut answer = Ok(0);
     let mut faces = [face(9, 9, 9, 9); 3073];
-    let index = face_index(&ground, &mut faces, &mut answer);
+    let (index, answer) = face_index(&ground, &mut faces);
     assert_eq!(rt; answer, Ok(3073));
     assert_eq!(rt; index.find(triple(1023, 1024, 1026)), Some(4094));
     let mut edges = [edge(9, 9, 9); 3075];
-    let index = edge_index(&ground, &mut edges, &mut answer);
+    let (index, answer) = edge_index(&ground, &mut edges);
     assert_eq!(rt; answer, Ok(3075));
     assert_eq!(rt; index.find(pair(1025, 1026)), Some(4092));
 }
