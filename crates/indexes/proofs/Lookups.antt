@@ -4,6 +4,7 @@ use Rattle.std.specs.Ordering.{is_eq}
 use Rattle.std.proofs.lemmas.List.{get_or_default}
 use Rattle.std.proofs.lemmas.Bool.{cases_lt, cases_order}
 use Rattle.rules.proofs.Crowding.{crowded}
+use Rattle.rules.proofs.Webbed.{cases_option}
 use Rattle.index.specs.declared.entry.Entry.{Entry}
 use Rattle.index.proofs.Orders.{TotalOrder}
 use Rattle.index.specs.Entries.{Rising, put_in, half_face_of}
@@ -12,10 +13,6 @@ use Rattle.std.specs.Cmp.{tied_itself}
 use Rattle.index.proofs.Places.{rising_apart, less_before, found_at}
 use Rattle.indexes.specs.Lists.{OneEach}
 use Rattle.indexes.specs.Gathered.{Finds, Gathered}
-
-pub some_or_none : (o : Option ℕ) → (o ≡ None) ⊎ ((x : ℕ) × (o ≡ Some x))
-some_or_none None = inl refl
-some_or_none (Some x) = inr (x, refl)
 
 pub none_from : (o : Option ℕ) → is_some o ≡ false → o ≡ None
 none_from None e = refl
@@ -100,7 +97,7 @@ module _ {K : Type 0} {order : K → K → Ordering} (total : TotalOrder order) 
       whole = λ k h has. ⊎_elim
           (λ (n : half_face_of order k es ≡ None). absurd (subst (Finds Has Rather k) n (g k) h has))
           (λ (s : (x : ℕ) × (half_face_of order k es ≡ Some x)). place k es s.0 s.1)
-          (some_or_none (half_face_of order k es));
+          (cases_option (half_face_of order k es));
     }
 
     -- two such lists are of one length

@@ -42,17 +42,20 @@ fn put_edges(ground: &Sealed, h: u16, index: &mut EdgeIndex)
     ensures room { length (held index.old).free ≤ length (held index.new).free + 3 }
 {
     let [a, b, c] = vertices(ground, h);
+    // three calls, since a list of the keys and a loop over it would be no shorter
     put_edge(ground, h, rising_pair(a, b), index);
     put_edge(ground, h, rising_pair(b, c), index);
     put_edge(ground, h, rising_pair(a, c), index);
 }
 
-// The index of all edges, over free places.
+// The index of all edges, over free places. It differs from that of the triangles in what each half-face
+// puts and how much, which is all that there is here; what is done alike is `hand_over`.
 fn gather_edges<'a>(ground: &Sealed, places: &'a mut [Entry<Pair>]) -> EdgeIndex<'a>
     requires { 12288 ≤ length places.old }
     ensures { EdgeEntries (plain_sealed ground.now).list (held result).entries }
 {
     let mut index = EdgeIndex::over(places);
+    // a half-face is its number: there is no list of them to go over
     let half_faces = 4 * ground.counts().cells;
     for h in 0..half_faces {
         put_edges(ground, h, &mut index);

@@ -37,6 +37,7 @@ fn gather_faces<'a>(ground: &Sealed, places: &'a mut [Entry<Triple>]) -> Triangl
     ensures { FaceEntries (plain_sealed ground.now).list (held result).entries }
 {
     let mut index = TriangleIndex::over(places);
+    // a half-face is its number: there is no list of them to go over
     let half_faces = 4 * ground.counts().cells;
     for h in 0..half_faces {
         put_face(ground, h, &mut index);

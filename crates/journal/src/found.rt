@@ -1,4 +1,5 @@
-//! Keys found in the indexes of a ground.
+//! Keys found in the indexes of a ground: a function for each kind of key, since they differ in each step,
+//! the key, how many places there are and the call.
 ghost use Rattle.std.specs.Prelude.{◌≡◌, ℕ, ◌≤◌};
 ghost use Rattle.index.specs.Keys.{triple_order, pair_order};
 ghost use Rattle.indexes.specs.Faces.{FaceEntries};

@@ -9,21 +9,8 @@ use Rattle.indexes.proofs.Offers.{gathered_none, gathered_as}
 use Rattle.indexes.proofs.HalfFaces.{few_cells}
 use Rattle.indexes.proofs.edges.gather_edges.Goals as goal
 
-pub overflow_mul-half_faces : goal.overflow_mul-half_faces
-overflow_mul-half_faces c = omega (arith, few_cells c.args.ground.now, c.counts-half_faces.ensures.counted.cells)
-
-pub put_edges-requires : goal.put_edges-requires
-put_edges-requires c =
-    let cells = c.counts-half_faces.ensures.counted.cells in
-    record {
-      lawful = c.counts-half_faces.ensures.lawful;
-      half = omega arith;
-      room = omega (arith, few_cells c.args.ground.now, c.loop-h.invariant.1);
-      gathered = c.loop-h.invariant.0;
-    }
-
-pub loop-h-preserved : goal.loop-h-preserved
-loop-h-preserved c = (c.put_edges.ensures.gathered, omega (arith, c.put_edges.ensures.room, c.loop-h.invariant.1))
+pub put_edges-requires-clause-room : goal.put_edges-requires-clause-room
+put_edges-requires-clause-room c = omega (arith, few_cells c.args.ground.now, c.loop-h.invariant.1)
 
 pub loop-h-init : goal.loop-h-init
 loop-h-init c =

@@ -1,4 +1,4 @@
-use Rattle.std.proofs.Common.{ℕ, Some, Option, sym, ◌∙◌, subst}
+use Rattle.std.proofs.Common.{ℕ, Some, Option, sym, subst}
 use Rattle.ground.specs.Grounds.{plain_sealed}
 use Rattle.index.specs.Held.{held, Stored}
 use Rattle.index.specs.Keys.{pair_order}
@@ -9,9 +9,6 @@ use Rattle.indexes.proofs.Offers.{not_refused, stored, room_left, put_offered}
 use Rattle.indexes.proofs.EdgePairs.{chosen_side}
 use Rattle.indexes.proofs.edges.put_edge.Goals as goal
 use Rattle.indexes.proofs.edges.put_edge.Goals.{in-None, in-Some}
-
-pub side-requires : goal.side-requires
-side-requires c = c.requires.found c.in-Some.held (sym c.find.ensures ∙ c.in-Some.is)
 
 pub unwrap-requires : goal.unwrap-requires
 unwrap-requires c = not_refused pair_order _ (held c.args.index.now) (held c.put.new.self) c.put.result c.requires.room c.put.ensures

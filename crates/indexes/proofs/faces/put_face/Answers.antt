@@ -1,4 +1,4 @@
-use Rattle.std.proofs.Common.{sym, ◌∙◌, arith}
+use Rattle.std.proofs.Common.{sym, ◌∙◌}
 use Rattle.rules.specs.Readings.{reads}
 use Rattle.ground.specs.Grounds.{plain_sealed}
 use Rattle.index.specs.Held.{held, Stored}
@@ -9,33 +9,28 @@ use Rattle.indexes.proofs.Lookups.{none_from, some_from}
 use Rattle.indexes.proofs.Offers.{not_refused, stored, room_left}
 use Rattle.indexes.proofs.Triangles.{sorts_as, put_new, kept}
 use Rattle.indexes.proofs.faces.put_face.Goals as goal
+use Rattle.indexes.proofs.faces.put_face.Goals.{After-rising_triple-key, After-unwrap}
 
 pub unwrap-requires : goal.unwrap-requires
 unwrap-requires c = not_refused triple_order _ (held c.args.index.now) (held c.put.new.self) c.put.result c.requires.room c.put.ensures
 
-pub returns-then-is_none : goal.returns-then-is_none
-returns-then-is_none c =
-    let rs = (plain_sealed c.args.ground.now).list in
-    let k = c.rising_triple-key.result in
-    let on : OnTriangle rs k c.args.h = (c.requires.half, sorts_as (reads rs c.args.h) c.vertices.result k c.vertices.ensures c.rising_triple-key.ensures) in
-    let before = held c.args.index.now in
-    let after = held c.put.new.self in
-    let s : Stored triple_order (record { key = k; half_face = c.args.h }) before after = stored triple_order _ before after c.put.result c.unwrap.result c.unwrap.ensures c.put.ensures in
-    record {
-      gathered = put_new rs k c.args.h on before after c.requires.gathered (sym c.find.ensures ∙ none_from c.find.result c.if-is_none.ensures) s;
-      room = room_left triple_total _ before after s;
-      on = (k, on);
-    }
+-- its triangle
+key : (c : After-rising_triple-key) → OnTriangle (plain_sealed c.args.ground.now).list c.rising_triple-key.result c.args.h
+key c = (c.requires.half, sorts_as (reads (plain_sealed c.args.ground.now).list c.args.h) c.vertices.result c.rising_triple-key.result c.vertices.ensures c.rising_triple-key.ensures)
 
-pub returns-else-is_none : goal.returns-else-is_none
-returns-else-is_none c =
-    let rs = (plain_sealed c.args.ground.now).list in
-    let k = c.rising_triple-key.result in
-    let on : OnTriangle rs k c.args.h = (c.requires.half, sorts_as (reads rs c.args.h) c.vertices.result k c.vertices.ensures c.rising_triple-key.ensures) in
-    let before = held c.args.index.now in
+put : (c : After-unwrap) → Stored triple_order (record { key = c.rising_triple-key.result; half_face = c.args.h }) (held c.args.index.now) (held c.put.new.self)
+put c = stored triple_order _ (held c.args.index.now) (held c.put.new.self) c.put.result c.unwrap.result c.unwrap.ensures c.put.ensures
+
+pub returns-then-is_none-clause-gathered : goal.returns-then-is_none-clause-gathered
+returns-then-is_none-clause-gathered c =
+    put_new (plain_sealed c.args.ground.now).list c.rising_triple-key.result c.args.h (key (goal.at.returns-then-is_none-clause-gathered c).After-rising_triple-key)
+    (held c.args.index.now) (held c.put.new.self) c.requires.gathered (sym c.find.ensures ∙ none_from c.find.result c.if-is_none.ensures) (put (goal.at.returns-then-is_none-clause-gathered c).After-unwrap)
+
+pub returns-then-is_none-clause-room : goal.returns-then-is_none-clause-room
+returns-then-is_none-clause-room c = room_left triple_total _ (held c.args.index.now) (held c.put.new.self) (put (goal.at.returns-then-is_none-clause-room c).After-unwrap)
+
+pub returns-else-is_none-clause-gathered : goal.returns-else-is_none-clause-gathered
+returns-else-is_none-clause-gathered c =
     let x = some_from c.find.result c.if-is_none.ensures in
-    record {
-      gathered = kept rs k c.args.h on before.entries c.requires.gathered x.0 (sym c.find.ensures ∙ x.1);
-      room = omega arith;
-      on = (k, on);
-    }
+    kept (plain_sealed c.args.ground.now).list c.rising_triple-key.result c.args.h (key (goal.at.returns-else-is_none-clause-gathered c).After-rising_triple-key)
+    (held c.args.index.now).entries c.requires.gathered x.0 (sym c.find.ensures ∙ x.1)
