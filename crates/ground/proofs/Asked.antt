@@ -1,9 +1,9 @@
--- A sealed ground's ghost fields, and what its tests list.
+-- What stands of the records, as a question tells it, and what the tests list.
 use Rattle.std.proofs.Common.{◌≡◌, ℕ, ◌*◌, ◌<◌, ◌≤◌, true, List, [], length, get_or, Some, None, Ok, Err, Option, Result, sym, refl, ap, ◌∙◌, subst, arith}
 use Rattle.std.proofs.lemmas.Bool.{lt-ltb, ltb-true, false≢true, and_parts, and_from}
 use Rattle.refusal.specs.declared.Refusal.{Refusal}
 use Rattle.rules.specs.Rows.{In}
-use Rattle.rules.specs.Joins.{Joined, OnSkin, Lower, OppositeIs, LawfulRows}
+use Rattle.rules.specs.Joins.{Joined, OnSkin, Lower, NoThree, OppositeIs, LawfulRows}
 use Rattle.rules.specs.Listings.{Listing}
 use Rattle.rules.specs.Questions.{TellsOpposite, OnlyOpposite, HalfCause, AtVertex, AtEdge}
 use Rattle.rules.specs.Questions.HalfCause.{absent}
@@ -11,45 +11,39 @@ use Rattle.rules.specs.Tests.{on, picks}
 use Rattle.rules.proofs.Corners.{in_to, in_from, vertices_to}
 use Rattle.rules.proofs.Listed.{listed_as, listing_as}
 use Rattle.ground.specs.declared.cell.Cell.{Cell}
-use Rattle.ground.specs.declared.stage.Sealed.{Sealed}
 use Rattle.ground.specs.Records.{rows, join_at, blank}
-use Rattle.ground.specs.Searches.{Lawful}
+use Rattle.ground.specs.Searches.{Lawful, Standing}
 use Rattle.ground.specs.Listed.{has_both, none_there, higher_there, open_at, lower_at}
-use Rattle.ground.specs.Grounds.{plain_sealed}
 use Rattle.ground.proofs.Records.{length_rows, rows_at}
 use Rattle.ground.proofs.Joining.{joined_sym, joined_one, half_in, joined_to, joined_from, skin_from}
 
-pub law : (g : Sealed) → Lawful g.cells.records.now g.cells.count
-law g = record { below = g.below; differ = g.differ; near = g.near; other = g.other; same = g.same; whole = g.whole }
-
-pub many : (g : Sealed) → length (plain_sealed g).list ≡ g.cells.count
-many g = length_rows g.cells.records.now g.cells.count g.room
-
-pub lawful : (g : Sealed) → LawfulRows (plain_sealed g).list
-lawful g = record {
-  low = λ t l h. omega (arith, g.below t h.0 (l, h.1), h.2);
-  differ = λ t l h. g.differ t h.0 h.1 (l, h.2, h.3, h.4);
-  apart = λ t u l k s. g.apart t u (l, k, vertices_to (get_or (plain_sealed g).list t []) (get_or (plain_sealed g).list u []) s);
-  no_three = joined_one g.cells.records.now g.cells.count g.room (law g);
+-- the rows of cells in use are as the rules have them
+pub lawful : (cs : List Cell) (n : ℕ) → Standing cs n → LawfulRows (rows cs n)
+lawful cs n s = record {
+  low = λ t l h. omega (arith, s.law.below t h.0 (l, h.1), h.2);
+  differ = λ t l h. s.law.differ t h.0 h.1 (l, h.2, h.3, h.4);
+  apart = λ t u l k e. s.apart t u (l, k, vertices_to (get_or (rows cs n) t []) (get_or (rows cs n) u []) e);
+  no_three = joined_one cs n s.room s.law;
 }
 
-pub opposite_so : (g : Sealed) (h : ℕ) (o : Option ℕ) → h < 4 * g.cells.count → o ≡ join_at g.cells.records.now h → OppositeIs (plain_sealed g).list h o
-opposite_so g h None l e = skin_from g.cells.records.now g.cells.count g.room (law g) h l (sym e)
-opposite_so g h (Some k) l e = joined_from g.cells.records.now g.cells.count g.room (law g) h k l (sym e)
+pub opposite_so : (cs : List Cell) (n : ℕ) (s : Standing cs n) (h : ℕ) (o : Option ℕ) → h < 4 * n → o ≡ join_at cs h → OppositeIs (rows cs n) h o
+opposite_so cs n s h None l e = skin_from cs n s.room s.law h l (sym e)
+opposite_so cs n s h (Some k) l e = joined_from cs n s.room s.law h k l (sym e)
 
 -- the opposite is one, and leads back
-module _ (g : Sealed) (h k : ℕ) (j : Joined (plain_sealed g).list h k) where
-  back : (r : Result (Option ℕ) Refusal) → TellsOpposite (plain_sealed g).list k r → r ≡ Ok (Some h)
-  back (Ok (Some m)) t = ap (λ (x : ℕ). Ok (Some x)) (joined_one g.cells.records.now g.cells.count g.room (law g) k m h t.1 (joined_sym (plain_sealed g).list h k j))
-  back (Ok None) t = absurd (t.1.1 h (joined_sym (plain_sealed g).list h k j))
-  back (Err e) t = absurd (refused e t.applies)
-    where
-      refused : (e : Refusal) → HalfCause (plain_sealed g).list k e → ⊥
-      refused _ (absent p) = let q = j.there in omega arith
+module _ (rs : List (List ℕ)) (one : NoThree rs) where
+  module _ (h k : ℕ) (j : Joined rs h k) where
+    back : (r : Result (Option ℕ) Refusal) → TellsOpposite rs k r → r ≡ Ok (Some h)
+    back (Ok (Some m)) t = ap (λ (x : ℕ). Ok (Some x)) (one k m h t.1 (joined_sym rs h k j))
+    back (Ok None) t = absurd (t.1.1 h (joined_sym rs h k j))
+    back (Err e) t = absurd (refused e t.applies)
+      where
+        refused : (e : Refusal) → HalfCause rs k e → ⊥
+        refused _ (absent p) = let q = j.there in omega arith
 
-pub only_so : (g : Sealed) (h : ℕ) (o : Option ℕ) → OppositeIs (plain_sealed g).list h o → OnlyOpposite (plain_sealed g).list h (Ok o)
-only_so g h None p = tt
-only_so g h (Some k) p = (λ m j. joined_one g.cells.records.now g.cells.count g.room (law g) h m k j p, back g h k p)
+  pub only_so : (h : ℕ) (o : Option ℕ) → OppositeIs rs h o → OnlyOpposite rs h (Ok o)
+  only_so h None p = tt
+  only_so h (Some k) p = (λ m j. one h m k j p, back h k p)
 
 none_so : (o : Option ℕ) → none_there o ≡ true → o ≡ None
 none_so None p = refl

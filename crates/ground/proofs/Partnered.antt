@@ -5,11 +5,11 @@ use Rattle.ground.specs.declared.cell.Cell.{Cell}
 use Rattle.rules.specs.PlainList.{CrowdedIn, StandsIn}
 use Rattle.rules.specs.Tests.{on, on_face, Fine}
 use Rattle.rules.proofs.Corners.{triangle_to, triangle_from, vertices_to, by_four, faces_apart}
-use Rattle.ground.specs.Records.{rows, join_at, Near, AllNear}
+use Rattle.ground.specs.Records.{rows, join_at}
 use Rattle.ground.specs.Searches.{Met, Lawful, Passed, joined_at, any_joined}
 use Rattle.rules.proofs.Exact.{Exact}
 use Rattle.ground.proofs.Records.{length_rows}
-use Rattle.ground.proofs.Turned.{exact_of, near_some, face_at}
+use Rattle.ground.proofs.Turned.{exact_of, face_at}
 use Rattle.rules.proofs.Options.{some_eq}
 
 some_cases : (o : Option ℕ) → ((k : ℕ) × (o ≡ Some k)) ⊎ (o ≡ None)
@@ -55,11 +55,6 @@ module _ (cs : List Cell) (n : ℕ) (x : List ℕ) (os : List (Option ℕ)) (roo
 
   missed : (i g : ℕ) → i < 4 → get_or os i None ≡ None → g < 4 * n → ((v : ℕ) → on x i v ≡ on_face (rows cs n) g v) → ⊥
   missed i g l p b = (past.seen i l).whole p g (subst (λ (k : ℕ). g < 4 * k) (sym len) b)
-
-  pub all_near : AllNear (length cs) os
-  all_near =
-      let at : (i : ℕ) → i < 4 → Near (length cs) (get_or os i None) = λ i l. near_some (length cs) (get_or os i None) (λ g p. let q : g < 4 * n = (found i g l p).0 in omega arith) in
-      (at 0 (omega arith), at 1 (omega arith), at 2 (omega arith), at 3 (omega arith))
 
   pub not_standing : StandsIn (rows cs n) x → ⊥
   not_standing s = past.fresh s.0 s.1 (vertices_to (get_or (rows cs n) s.0 []) x s.2)

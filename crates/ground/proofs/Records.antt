@@ -11,10 +11,13 @@ use Rattle.ground.specs.Records.{blank, corners_of, rows, join_at, relinked, tur
 pub length_rows : (cs : List Cell) (n : ℕ) → n ≤ length cs → length (rows cs n) ≡ n
 length_rows cs n l = length-map (take n cs) corners_of ∙ length-take-le n cs l
 
-pub rows_at : (cs : List Cell) (n t : ℕ) → n ≤ length cs → t < n → get_or (rows cs n) t [] ≡ (get_or cs t blank).corners
-rows_at cs n t l h =
+pub row_taken : (cs : List Cell) (n t : ℕ) → n ≤ length cs → t < n → get_or (rows cs n) t [] ≡ (get_or (take n cs) t blank).corners
+row_taken cs n t l h =
     let k : t < length (take n cs) = rw (length-take-le n cs l) h in
-    get_or-map corners_of (take n cs) t blank [] k ∙ ap corners_of (get_or-take n cs t blank h)
+    get_or-map corners_of (take n cs) t blank [] k
+
+pub rows_at : (cs : List Cell) (n t : ℕ) → n ≤ length cs → t < n → get_or (rows cs n) t [] ≡ (get_or cs t blank).corners
+rows_at cs n t l h = row_taken cs n t l h ∙ ap corners_of (get_or-take n cs t blank h)
 
 pub rows_set : (cs : List Cell) (n t : ℕ) (c : Cell) → t < n → rows (set cs t c) n ≡ set (rows cs n) t c.corners
 rows_set cs n t c h = ap (map corners_of) (take-set-lt n cs t c h) ∙ map-set corners_of (take n cs) t c

@@ -1,5 +1,5 @@
 -- The records of a ground: each has the four corners of a cell and, for each half-face, the half-face that it is joined to.
-use Rattle.std.specs.Prelude.{◌≡◌, ℕ, ◌+◌, ◌*◌, ◌/◌, ◌%◌, ◌<◌, Bool, true, cond, List, [], ◌∷◌, map, length, get_or, take, Some, None, Option, ◌≢◌, nat_lt, slice_index, slice_index_or, slice_set}
+use Rattle.std.specs.Prelude.{◌≡◌, ℕ, zero, suc, ◌+◌, ◌*◌, ◌/◌, ◌%◌, ◌<◌, Bool, true, cond, List, [], ◌∷◌, map, length, get_or, take, Some, None, Option, ◌≢◌, nat_lt, slice_index, slice_index_or, slice_set}
 use Rattle.rules.specs.Tests.{names}
 use Rattle.ground.specs.declared.cell.Cell.{Cell}
 
@@ -56,8 +56,13 @@ turned_cell c = record { corners = slice_index c.corners 0 ∷ slice_index c.cor
 abbrev pub turned_cells : List Cell → ℕ → List Cell
 turned_cells cs t = relinked (relinked (slice_set cs t (turned_cell (slice_index_or cs t blank))) (slice_index_or (get_or cs t blank).joins 2 None) (Some (4 * t + 3))) (slice_index_or (get_or cs t blank).joins 3 None) (Some (4 * t + 2))
 
+-- each of the first k half-faces that ws name is joined to what stands at its place in ts
+abbrev pub relinked_first : ℕ → List Cell → List (Option ℕ) → List (Option ℕ) → List Cell
+relinked_first zero cs ws ts = cs
+relinked_first (suc k) cs ws ts = relinked (relinked_first k cs ws ts) (slice_index_or ws k None) (slice_index_or ts k None)
+
 abbrev pub relinked_all : List Cell → List (Option ℕ) → List (Option ℕ) → List Cell
-relinked_all cs ws ts = relinked (relinked (relinked (relinked cs (slice_index_or ws 0 None) (slice_index_or ts 0 None)) (slice_index_or ws 1 None) (slice_index_or ts 1 None)) (slice_index_or ws 2 None) (slice_index_or ts 2 None)) (slice_index_or ws 3 None) (slice_index_or ts 3 None)
+relinked_all = relinked_first 4
 
 abbrev pub AllNear : ℕ → List (Option ℕ) → Type 0
 AllNear n ws = Near n (slice_index_or ws 0 None) × Near n (slice_index_or ws 1 None) × Near n (slice_index_or ws 2 None) × Near n (slice_index_or ws 3 None)

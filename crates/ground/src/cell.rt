@@ -1,7 +1,7 @@
 //! The record of one cell.
 ghost use Rattle.std.specs.Prelude.{◌≡◌};
 ghost use Rattle.rules.specs.Rows.{row};
-ghost use Rattle.ground.specs.Records.{nones};
+ghost use Rattle.ground.specs.Records.{nones, turned_cell};
 
 /// A cell place: the four vertices of a cell in the order of its corners, and for each half-face
 /// the half-face that it is joined to. What a place holds that no cell uses is nobody's business.
@@ -19,7 +19,16 @@ impl Cell {
     {
         Cell {
             corners: [0, 1, 2, 3],
-            joins: [None, None, None, None],
+            joins: [None; 4],
         }
+    }
+
+    // Corners 2 and 3 exchanged, with the joins of the two half-faces without them.
+    pub(crate) fn turned(mut self) -> Cell
+        ensures { result ≡ turned_cell self }
+    {
+        self.corners.swap(2, 3);
+        self.joins.swap(2, 3);
+        self
     }
 }

@@ -1,103 +1,22 @@
 //! Cells and half-faces that pass a test, counted and written into a list in rising order.
-ghost use Rattle.std.specs.Prelude.{◌≡◌, ℕ, ◌*◌, ◌/◌, ◌%◌, ◌<◌, ◌≤◌, Bool, ◌&&◌, length, take, drop, slice_index_or};
-ghost use Rattle.rules.specs.Readings.{face, listed};
+ghost use Rattle.std.specs.Prelude.{◌≡◌, ℕ, ◌*◌, ◌<◌, ◌≤◌, Bool, length, take, drop};
 ghost use Rattle.rules.specs.Tests.{picks};
-ghost use Rattle.ground.specs.Records.{join_at, blank};
-ghost use Rattle.ground.specs.Listed.{has_both, open_at, lower_at, Written};
+ghost use Rattle.ground.specs.Listed.{has_both, open_at, lower_at, TestsBelow, Written, Tallied};
 
-use crate::cell::Cell;
-use crate::row::{has, read};
+use crate::counts::Counts;
+use crate::joined::Joined;
+use crate::row::has;
 use refusal::Refusal;
 
-// A test of numbers below a limit.
-pub(crate) trait Test {
-    ghost limit: { Self → ℕ };
-
-    ghost passes: { Self → ℕ → Bool };
-
-    fn pass(&self, k: usize) -> bool
-        requires { k < limit self.now }
-        ensures { result ≡ passes self.now k };
-}
-
-// The cells that have both vertices; at v = w, those at one vertex.
-#[derive(Clone, Copy)]
-pub(crate) struct AtBoth<'c> {
-    pub(crate) records: &'c [Cell],
-    pub(crate) v: u16,
-    pub(crate) w: u16,
-}
-
-// The half-faces that are open.
-#[derive(Clone, Copy)]
-pub(crate) struct Unjoined<'c> {
-    pub(crate) records: &'c [Cell],
-}
-
-// The half-faces that are joined to a higher one.
-#[derive(Clone, Copy)]
-pub(crate) struct LowerOfTwo<'c> {
-    pub(crate) records: &'c [Cell],
-}
-
-// The half-face that is stored as the opposite of h.
-pub(crate) fn opposite(cells: &[Cell], h: usize) -> Option<u16>
-    requires { h / 4 < length cells.now }
-    ensures { result ≡ join_at cells.now h }
-{
-    cells[h / 4].joins[h % 4]
-}
-
-// What half-face h reads.
-pub(crate) fn reading(cells: &[Cell], h: usize) -> [u16; 3]
-    requires { h / 4 < length cells.now }
-    ensures { result ≡ listed (face (slice_index_or cells.now (h / 4) blank).corners (h % 4)) }
-{
-    read(cells[h / 4].corners, h % 4)
-}
-
-impl Test for AtBoth<'_> {
-    ghost limit = { λ s. length s.records.now };
-
-    ghost passes = { λ s. has_both s.records.now s.v s.w };
-
-    fn pass(&self, k: usize) -> bool {
-        let row = self.records[k].corners;
-        has(row, 4, self.v) && has(row, 4, self.w)
-    }
-}
-
-impl Test for Unjoined<'_> {
-    ghost limit = { λ s. 4 * length s.records.now };
-
-    ghost passes = { λ s. open_at s.records.now };
-
-    fn pass(&self, k: usize) -> bool {
-        opposite(self.records, k).is_none()
-    }
-}
-
-impl Test for LowerOfTwo<'_> {
-    ghost limit = { λ s. 4 * length s.records.now };
-
-    ghost passes = { λ s. lower_at s.records.now };
-
-    fn pass(&self, k: usize) -> bool {
-        match opposite(self.records, k) {
-            Some(g) => k < g as usize,
-            None => false,
-        }
-    }
-}
-
 // How many numbers below n pass.
-pub(crate) fn count_passing<T: Test>(test: &T, n: usize) -> usize
-    requires { n ≤ T.limit test.now }
-    ensures { (result ≡ length (picks (T.passes test.now) n)) × (result ≤ n) }
+fn count_passing<F: Fn(usize) -> bool>(passes: &F, n: usize) -> usize
+    ghost f: { ℕ → Bool }
+    requires { TestsBelow (F.pre passes.now) (F.post passes.now) f n }
+    ensures { (result ≡ length (picks f n)) × (result ≤ n) }
 {
     let mut found = 0;
     for k in 0..n {
-        if test.pass(k) {
+        if passes(k) {
             found += 1;
         }
     }
@@ -105,16 +24,17 @@ pub(crate) fn count_passing<T: Test>(test: &T, n: usize) -> usize
 }
 
 // Writes the numbers below n that pass, in rising order.
-fn write_passing<T: Test>(test: &T, n: usize, out: &mut [u16])
-    requires inside { n ≤ T.limit test.now }
+fn write_passing<F: Fn(usize) -> bool>(passes: &F, n: usize, out: &mut [u16])
+    ghost f: { ℕ → Bool }
+    requires tests { TestsBelow (F.pre passes.now) (F.post passes.now) f n }
     requires few { n ≤ 4096 }
-    requires fits { length (picks (T.passes test.now) n) ≤ length out.old }
-    ensures first { take (length (picks (T.passes test.now) n)) out.new ≡ picks (T.passes test.now) n }
-    ensures rest { drop (length (picks (T.passes test.now) n)) out.new ≡ drop (length (picks (T.passes test.now) n)) out.old }
+    requires fits { length (picks f n) ≤ length out.old }
+    ensures first { take (length (picks f n)) out.new ≡ picks f n }
+    ensures rest { drop (length (picks f n)) out.new ≡ drop (length (picks f n)) out.old }
 {
     let mut found = 0;
     for k in 0..n {
-        if test.pass(k) {
+        if passes(k) {
             out[found] = k as u16;
             found += 1;
         }
@@ -122,15 +42,84 @@ fn write_passing<T: Test>(test: &T, n: usize, out: &mut [u16])
 }
 
 // Writes the numbers below n that pass and answers how many there are. They are counted first, so that a refusal writes nothing.
-pub(crate) fn list_passing<T: Test>(test: &T, n: usize, out: &mut [u16]) -> Result<usize, Refusal>
-    requires inside { n ≤ T.limit test.now }
+fn list_passing<F: Fn(usize) -> bool>(
+    passes: F,
+    n: usize,
+    out: &mut [u16],
+) -> Result<usize, Refusal>
+    ghost f: { ℕ → Bool }
+    requires tests { TestsBelow (F.pre passes) (F.post passes) f n }
     requires few { n ≤ 4096 }
-    ensures { Written (T.passes test.now) n out.old result out.new }
+    ensures { Written f n out.old result out.new }
 {
-    let found = count_passing(test, n);
+    let found = count_passing(&passes, n);
     if found > out.len() {
         return Err(Refusal::ListTooShort);
     }
-    write_passing(test, n, out);
+    write_passing(&passes, n, out);
     Ok(found)
+}
+
+impl Joined<'_> {
+    // Whether cell t has both vertices; at v = w, the one vertex.
+    fn has_both(&self, t: usize, v: u16, w: u16) -> bool
+        requires { t < self.now.count }
+        ensures { result ≡ has_both self.now.records.now v w t }
+    {
+        let row = self.records[t].corners;
+        has(row, 4, v) && has(row, 4, w)
+    }
+
+    // Whether half-face h is open.
+    fn is_open(&self, h: usize) -> bool
+        ensures { result ≡ open_at self.now.records.now h }
+    {
+        self.opposite(h).is_none()
+    }
+
+    // Whether half-face h is joined to a higher one.
+    fn is_lower(&self, h: usize) -> bool
+        ensures { result ≡ lower_at self.now.records.now h }
+    {
+        self.opposite(h).is_some_and(|g| h < g as usize)
+    }
+
+    // Writes the cells that have both vertices, in rising order.
+    pub(crate) fn list_star(&self, v: u16, w: u16, out: &mut [u16]) -> Result<usize, Refusal>
+        ensures { Written (has_both self.now.records.now v w) self.now.count out.old result out.new }
+    {
+        list_passing(move |t| self.has_both(t, v, w), self.count, out)
+    }
+
+    // Writes the open half-faces, in rising order.
+    pub(crate) fn list_skin(&self, out: &mut [u16]) -> Result<usize, Refusal>
+        ensures { Written (open_at self.now.records.now) (4 * self.now.count) out.old result out.new }
+    {
+        list_passing(|h| self.is_open(h), 4 * self.count, out)
+    }
+
+    // How many half-faces are joined to a higher one.
+    fn count_joined(&self) -> usize
+        ensures { (result ≡ length (picks (lower_at self.now.records.now) (4 * self.now.count))) × (result ≤ 4 * self.now.count) }
+    {
+        count_passing(&|h| self.is_lower(h), 4 * self.count)
+    }
+
+    // How many half-faces are open.
+    fn count_skin(&self) -> usize
+        ensures { (result ≡ length (picks (open_at self.now.records.now) (4 * self.now.count))) × (result ≤ 4 * self.now.count) }
+    {
+        count_passing(&|h| self.is_open(h), 4 * self.count)
+    }
+
+    // Counts the cells, the joined triangles and the skin triangles.
+    pub(crate) fn counts(&self) -> Counts
+        ensures { Tallied self.now.records.now self.now.count result }
+    {
+        Counts {
+            cells: self.count as u16,
+            joined: self.count_joined() as u16,
+            skin: self.count_skin() as u16,
+        }
+    }
 }

@@ -1,9 +1,9 @@
 //! What an open ground allows: lay, lift, turn, orient and seal.
-ghost use Rattle.std.specs.Prelude.{◌≡◌, ℕ, ◌+◌, ◌<◌, ◌≤◌, min, [], ◌∷◌, length};
+ghost use Rattle.std.specs.Prelude.{◌≡◌, ℕ, ◌+◌, ◌<◌, ◌≤◌, MatchResult, min, length};
 ghost use Rattle.rules.specs.Rows.{row};
 ghost use Rattle.rules.specs.PlainList.{empty, Lays, Lifts, Turns};
 ghost use Rattle.rules.specs.Orients.{Orients, RefusedExactly, OpposedAfter, OrientsOnce};
-ghost use Rattle.ground.specs.Grounds.{plain, plain_sealed, Kept};
+ghost use Rattle.ground.specs.Grounds.{plain, plain_sealed, places_of, Kept};
 
 use crate::cell::Cell;
 use crate::cells::Cells;
@@ -16,12 +16,8 @@ use refusal::Refusal;
 pub fn make<'a>(places: &'a mut [Cell]) -> Open<'a>
     ensures { plain result ≡ empty (min (length places.old) 1024) }
 {
-    let room = if places.len() < 1024 {
-        places.len()
-    } else {
-        1024
-    };
-    let records = &mut places[0..room];
+    let room = places.len().min(1024);
+    let records = &mut places[..room];
     Open {
         cells: Cells { records, count: 0 },
         changes: 0,
@@ -32,14 +28,25 @@ pub fn make<'a>(places: &'a mut [Cell]) -> Open<'a>
 fn one_more(changes: u16) -> u16
     ensures { result ≡ min (changes + 1) 65535 }
 {
-    if changes < 65535 { changes + 1 } else { 65535 }
+    changes.saturating_add(1)
 }
 
 impl<'a> Open<'a> {
+    // The number of cell t, if there is one.
+    fn cell(&self, t: u16) -> Result<usize, Refusal>
+        ensures { MatchResult result (λ k. (k ≡ t) × (k < self.now.cells.count)) (λ cause. (cause ≡ Refusal.NoSuchNumber) × (self.now.cells.count ≤ t)) }
+    {
+        let t = t as usize;
+        if t >= self.cells.count {
+            return Err(Refusal::NoSuchNumber);
+        }
+        Ok(t)
+    }
+
     /// Appends the cell a b c d and answers its number.
     pub fn lay(&mut self, a: u16, b: u16, c: u16, d: u16) -> Result<u16, Refusal>
         ensures lays { Lays (plain self.old) (row a b c d) result (plain self.new) }
-        ensures kept { Kept result self.old.cells.records.now self.new.cells.records.now }
+        ensures kept { Kept result (places_of self.old) (places_of self.new) }
     {
         let corners = [a, b, c, d];
         let count = self.cells.count;
@@ -52,25 +59,19 @@ impl<'a> Open<'a> {
         if count >= self.cells.records.len() {
             return Err(Refusal::NoFreePlace);
         }
-        match self.cells.partners(corners) {
-            Err(cause) => Err(cause),
-            Ok(joins) => {
-                self.cells.append(corners, joins);
-                self.changes = one_more(self.changes);
-                Ok(count as u16)
-            }
-        }
+        let joins = self.cells.joined().partners(corners)?;
+        self.cells.append(corners, joins);
+        self.changes = one_more(self.changes);
+        Ok(count as u16)
     }
 
     /// Removes cell t; the last cell takes its number.
     pub fn lift(&mut self, t: u16) -> Result<(), Refusal>
         ensures lifts { Lifts (plain self.old) t result (plain self.new) }
-        ensures kept { Kept result self.old.cells.records.now self.new.cells.records.now }
+        ensures kept { Kept result (places_of self.old) (places_of self.new) }
     {
-        if t as usize >= self.cells.count {
-            return Err(Refusal::NoSuchNumber);
-        }
-        self.cells.remove(t as usize);
+        let t = self.cell(t)?;
+        self.cells.remove(t);
         self.changes = one_more(self.changes);
         Ok(())
     }
@@ -78,12 +79,10 @@ impl<'a> Open<'a> {
     /// Exchanges corners 2 and 3 of cell t.
     pub fn turn(&mut self, t: u16) -> Result<(), Refusal>
         ensures turns { Turns (plain self.old) t result (plain self.new) }
-        ensures kept { Kept result self.old.cells.records.now self.new.cells.records.now }
+        ensures kept { Kept result (places_of self.old) (places_of self.new) }
     {
-        if t as usize >= self.cells.count {
-            return Err(Refusal::NoSuchNumber);
-        }
-        self.cells.turn(t as usize);
+        let t = self.cell(t)?;
+        self.cells.turn(t);
         self.changes = one_more(self.changes);
         Ok(())
     }
@@ -97,26 +96,22 @@ impl<'a> Open<'a> {
     /// number of cells then.
     pub fn orient(&mut self, labels: &mut [Turn], marks: &mut [u8]) -> Result<usize, Refusal>
         ensures orients { Orients (plain self.old) labels.old marks.old result (plain self.new) labels.new marks.new }
-        ensures kept { Kept result self.old.cells.records.now self.new.cells.records.now }
+        ensures kept { Kept result (places_of self.old) (places_of self.new) }
         ensures exactly { RefusedExactly (plain self.old) labels.old marks.old result }
         ensures opposed { OpposedAfter result (plain self.new) }
         ensures once { OrientsOnce (plain self.old) labels.old marks.old result (plain self.new) }
     {
-        match self.cells.carry_turns(labels, marks) {
-            Err(refused) => Err(refused),
-            Ok(_pieces) => {
-                let turned = self.cells.turn_labelled(labels);
-                self.changes = one_more(self.changes);
-                Ok(turned)
-            }
-        }
+        let _pieces = self.cells.carry_turns(labels, marks)?;
+        let turned = self.cells.turn_labelled(labels);
+        self.changes = one_more(self.changes);
+        Ok(turned)
     }
 
     /// The same ground, sealed, with its cells and triangles counted.
     pub fn seal(self) -> Sealed<'a>
         ensures { plain_sealed result ≡ plain self.entry }
     {
-        let counts = self.cells.counts();
+        let counts = self.cells.joined().counts();
         let Open { cells, changes } = self;
         Sealed {
             cells,

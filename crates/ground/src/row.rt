@@ -8,7 +8,7 @@ ghost use Rattle.rules.specs.NetTests.{rotation};
 pub(crate) fn too_high(corners: [u16; 4]) -> bool
     ensures { result ≡ high_test corners }
 {
-    corners[0] > 4095 || corners[1] > 4095 || corners[2] > 4095 || corners[3] > 4095
+    corners.iter().any(|&v| v > 4095)
 }
 
 // Whether two of the vertices are equal.
@@ -23,10 +23,7 @@ pub(crate) fn repeated(corners: [u16; 4]) -> bool
 pub(crate) fn has(row: [u16; 4], i: usize, v: u16) -> bool
     ensures { result ≡ on row i v }
 {
-    (i != 0 && row[0] == v)
-        || (i != 1 && row[1] == v)
-        || (i != 2 && row[2] == v)
-        || (i != 3 && row[3] == v)
+    row.iter().enumerate().any(|(k, &w)| k != i && w == v)
 }
 
 // What half-face i of the row reads.
@@ -47,7 +44,6 @@ pub(crate) fn read(row: [u16; 4], i: usize) -> [u16; 3]
 pub(crate) fn read_alike(a: [u16; 3], b: [u16; 3]) -> bool
     ensures { result ≡ rotation a b }
 {
-    (a[0] == b[0] && a[1] == b[1] && a[2] == b[2])
-        || (a[0] == b[1] && a[1] == b[2] && a[2] == b[0])
-        || (a[0] == b[2] && a[1] == b[0] && a[2] == b[1])
+    let [p, q, r] = b;
+    a == [p, q, r] || a == [q, r, p] || a == [r, p, q]
 }

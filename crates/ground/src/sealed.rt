@@ -1,5 +1,5 @@
 //! The questions of a sealed ground.
-ghost use Rattle.std.specs.Prelude.{◌≡◌, ℕ, ◌*◌, ◌<◌, ◌≤◌, length};
+ghost use Rattle.std.specs.Prelude.{◌≡◌, ℕ, ◌*◌, ◌<◌, ◌≤◌, MatchResult, length};
 ghost use Rattle.rules.specs.Joins.{NoThree, LawfulRows};
 ghost use Rattle.rules.specs.Questions.{Counted, TellsReading, TellsOpposite, OnlyOpposite, TellsStar, TellsEdgeStar, TellsSkin};
 ghost use Rattle.rules.specs.Nets.{TurnWeb, TurnsMeant};
@@ -13,7 +13,28 @@ use crate::stage::{Open, Sealed};
 use crate::turn_net::TurnNet;
 use refusal::Refusal;
 
+// Refuses a vertex number above 4,095.
+fn low(v: u16) -> Result<(), Refusal>
+    ensures { MatchResult result (λ _. v ≤ 4095) (λ cause. (cause ≡ Refusal.VertexTooHigh) × (4095 < v)) }
+{
+    if v > 4095 {
+        return Err(Refusal::VertexTooHigh);
+    }
+    Ok(())
+}
+
 impl<'a> Sealed<'a> {
+    // The number of half-face h, if there is one.
+    fn half_face(&self, h: u16) -> Result<usize, Refusal>
+        ensures { MatchResult result (λ k. (k ≡ h) × (k < 4 * self.now.cells.count)) (λ cause. (cause ≡ Refusal.NoSuchNumber) × (4 * self.now.cells.count ≤ h)) }
+    {
+        let h = h as usize;
+        if h >= 4 * self.cells.count {
+            return Err(Refusal::NoSuchNumber);
+        }
+        Ok(h)
+    }
+
     /// The same ground, open for changes again.
     pub fn reopen(self) -> Open<'a>
         ensures { plain result ≡ plain_sealed self.entry }
@@ -46,10 +67,8 @@ impl<'a> Sealed<'a> {
     pub fn reading(&self, h: u16) -> Result<[u16; 3], Refusal>
         ensures { TellsReading (plain_sealed self.now).list h result }
     {
-        if h as usize >= 4 * self.cells.count {
-            return Err(Refusal::NoSuchNumber);
-        }
-        Ok(self.cells.reading(h as usize))
+        let h = self.half_face(h)?;
+        Ok(self.cells.joined().reading(h))
     }
 
     /// The opposite of half-face h, or none if it is open.
@@ -58,10 +77,8 @@ impl<'a> Sealed<'a> {
         ensures only { OnlyOpposite (plain_sealed self.now).list h result }
         ensures no_three { NoThree (plain_sealed self.now).list }
     {
-        if h as usize >= 4 * self.cells.count {
-            return Err(Refusal::NoSuchNumber);
-        }
-        Ok(self.cells.opposite(h as usize))
+        let h = self.half_face(h)?;
+        Ok(self.cells.joined().opposite(h))
     }
 
     /// The turn net of the cells. Labels agree over it exactly when turning by them makes all joined
@@ -71,41 +88,33 @@ impl<'a> Sealed<'a> {
         ensures computed { turn_net_web result ≡ turn_web (plain_sealed self.now).list }
         ensures meant { TurnsMeant (plain_sealed self.now).list }
     {
-        TurnNet {
-            cells: self.cells.joined(),
-        }
+        self.cells.turn_net()
     }
 
     /// Writes the cells at the vertex v into `out`, in rising order, and answers how many there are.
     pub fn star(&self, v: u16, out: &mut [u16]) -> Result<usize, Refusal>
         ensures { TellsStar (plain_sealed self.now).list v out.old result out.new }
     {
-        if v > 4095 {
-            return Err(Refusal::VertexTooHigh);
-        }
-        self.cells.list_star(v, v, out)
+        low(v)?;
+        self.cells.joined().list_star(v, v, out)
     }
 
     /// Writes the cells at the edge of v and w into `out`, in rising order, and answers how many there are.
     pub fn edge_star(&self, v: u16, w: u16, out: &mut [u16]) -> Result<usize, Refusal>
         ensures { TellsEdgeStar (plain_sealed self.now).list v w out.old result out.new }
     {
-        if v > 4095 {
-            return Err(Refusal::VertexTooHigh);
-        }
-        if w > 4095 {
-            return Err(Refusal::VertexTooHigh);
-        }
+        low(v)?;
+        low(w)?;
         if v == w {
             return Err(Refusal::VerticesEqual);
         }
-        self.cells.list_star(v, w, out)
+        self.cells.joined().list_star(v, w, out)
     }
 
     /// Writes the open half-faces into `out`, in rising order, and answers how many there are.
     pub fn skin(&self, out: &mut [u16]) -> Result<usize, Refusal>
         ensures { TellsSkin (plain_sealed self.now).list out.old result out.new }
     {
-        self.cells.list_skin(out)
+        self.cells.joined().list_skin(out)
     }
 }

@@ -1,20 +1,19 @@
 //! The search for the half-faces that the four triangles of a new cell meet.
-ghost use Rattle.std.specs.Prelude.{◌≡◌, ℕ, ◌<◌, ◌≤◌, length};
-ghost use Rattle.ground.specs.Records.{rows, Near, AllNear};
-ghost use Rattle.ground.specs.Searches.{within, same_face, picked, picked_all, shared_of, met_with, joined_at, any_joined, Scanned, Partners, Lawful};
+ghost use Rattle.std.specs.Prelude.{◌≡◌, ◌%◌, ◌<◌, count_by};
+ghost use Rattle.rules.specs.Tests.{on};
+ghost use Rattle.ground.specs.Nets.{joined_rows};
+ghost use Rattle.ground.specs.Searches.{within, same_face, picked, picked_all, met_with, joined_at, any_joined, Scanned, Partners};
 
-use crate::cell::Cell;
+use crate::joined::Joined;
 use crate::row::has;
 use refusal::Refusal;
+use std::array;
 
 // Whether each vertex of triangle i of x is on triangle j of y (at 4: the whole row).
 fn lies_on(x: [u16; 4], i: usize, y: [u16; 4], j: usize) -> bool
     ensures { result ≡ within x i y j }
 {
-    (i == 0 || has(y, j, x[0]))
-        && (i == 1 || has(y, j, x[1]))
-        && (i == 2 || has(y, j, x[2]))
-        && (i == 3 || has(y, j, x[3]))
+    x.iter().enumerate().all(|(k, &v)| i == k || has(y, j, v))
 }
 
 // Whether triangle i of x and triangle j of y have the same vertices (at 4: the whole row).
@@ -26,43 +25,19 @@ fn same_vertices(x: [u16; 4], i: usize, y: [u16; 4], j: usize) -> bool
 
 // The half-face of the row y, the first of which is h, on triangle i of x; else what was found before.
 fn pick(before: Option<u16>, x: [u16; 4], i: usize, y: [u16; 4], h: u16) -> Option<u16>
-    requires { h < 4096 }
+    requires { (h < 4096) × (h % 4 ≡ 0) }
     ensures { result ≡ picked before x i y h }
 {
-    if same_vertices(x, i, y, 0) {
-        Some(h)
-    } else if same_vertices(x, i, y, 1) {
-        Some(h + 1)
-    } else if same_vertices(x, i, y, 2) {
-        Some(h + 2)
-    } else if same_vertices(x, i, y, 3) {
-        Some(h + 3)
-    } else {
-        before
-    }
-}
-
-fn pick_all(before: [Option<u16>; 4], x: [u16; 4], y: [u16; 4], h: u16) -> [Option<u16>; 4]
-    requires { h < 4096 }
-    ensures { result ≡ picked_all before x y h }
-{
-    let [a, b, c, d] = before;
-    [
-        pick(a, x, 0, y, h),
-        pick(b, x, 1, y, h),
-        pick(c, x, 2, y, h),
-        pick(d, x, 3, y, h),
-    ]
+    (h..h + 4)
+        .find(|&g| same_vertices(x, i, y, g as usize % 4))
+        .or(before)
 }
 
 // How many corners of x are vertices of y.
-fn shared(x: [u16; 4], y: [u16; 4]) -> u8
-    ensures { result ≡ shared_of x y }
+fn shared(x: [u16; 4], y: [u16; 4]) -> usize
+    ensures { result ≡ count_by (λ v. on y 4 v) x }
 {
-    u8::from(has(y, 4, x[0]))
-        + u8::from(has(y, 4, x[1]))
-        + u8::from(has(y, 4, x[2]))
-        + u8::from(has(y, 4, x[3]))
+    x.iter().filter(|&&v| has(y, 4, v)).count()
 }
 
 // What the row, the first half-face of which is h, adds to what was found; nothing if it has the same four vertices.
@@ -73,7 +48,7 @@ fn meet(
     row: [u16; 4],
     h: u16,
 ) -> Option<[Option<u16>; 4]>
-    requires { (h < 4096) × (length found ≡ 4) }
+    requires { (h < 4096) × (h % 4 ≡ 0) }
     ensures { result ≡ met_with found corners row h }
 {
     if shared(corners, row) < 3 {
@@ -82,63 +57,46 @@ fn meet(
     if same_vertices(row, 4, corners, 4) {
         return None;
     }
-    Some(pick_all(found, corners, row, h))
+    Some(array::from_fn(|i| pick(found[i], corners, i, row, h)))
 }
 
-// For each triangle of the corners a half-face on it, or none; nothing if a cell has the same four vertices.
-fn scan(cells: &[Cell], count: usize, corners: [u16; 4]) -> Option<[Option<u16>; 4]>
-    requires { (count ≤ 1024) × (count ≤ length cells.now) }
-    ensures { Scanned (rows cells.now count) corners result }
-{
-    let mut found = [None, None, None, None];
-    for t in 0..count {
-        match meet(found, corners, cells[t].corners, 4 * t as u16) {
-            None => return None,
-            Some(next) => found = next,
+impl Joined<'_> {
+    // For each triangle of the corners a half-face on it, or none; nothing if a cell has the same four vertices.
+    fn scan(&self, corners: [u16; 4]) -> Option<[Option<u16>; 4]>
+        ensures { Scanned (joined_rows self.now) corners result }
+    {
+        let mut found = [None; 4];
+        for (t, cell) in self.records[..self.count].iter().enumerate() {
+            found = meet(found, corners, cell.corners, 4 * t as u16)?;
         }
+        Some(found)
     }
-    Some(found)
-}
 
-// Whether the half-face has an opposite.
-fn joined(cells: &[Cell], whom: Option<u16>) -> bool
-    requires { Near (length cells.now) whom }
-    ensures { result ≡ joined_at cells.now whom }
-{
-    match whom {
-        Some(g) => cells[g as usize / 4].joins[g as usize % 4].is_some(),
-        None => false,
+    // Whether the half-face has an opposite.
+    fn is_joined(&self, whom: Option<u16>) -> bool
+        ensures { result ≡ joined_at self.now.records.now whom }
+    {
+        let Some(g) = whom else {
+            return false;
+        };
+        self.opposite(g as usize).is_some()
     }
-}
 
-fn any_joined(cells: &[Cell], found: [Option<u16>; 4]) -> bool
-    requires { AllNear (length cells.now) found }
-    ensures { result ≡ any_joined cells.now found }
-{
-    joined(cells, found[0])
-        || joined(cells, found[1])
-        || joined(cells, found[2])
-        || joined(cells, found[3])
-}
+    // Whether one of the half-faces has an opposite.
+    fn any_joined(&self, found: [Option<u16>; 4]) -> bool
+        ensures { result ≡ any_joined self.now.records.now found }
+    {
+        found.iter().any(|&whom| self.is_joined(whom))
+    }
 
-// For each triangle of the corners the half-face on it, or none. Refused if a cell has the same four vertices, else if a triangle is in two cells.
-pub(crate) fn partners(
-    cells: &[Cell],
-    count: usize,
-    corners: [u16; 4],
-) -> Result<[Option<u16>; 4], Refusal>
-    requires few { count ≤ 1024 }
-    requires room { count ≤ length cells.now }
-    requires lawful { Lawful cells.now count }
-    ensures { Partners (rows cells.now count) corners result }
-{
-    match scan(cells, count, corners) {
-        None => Err(Refusal::CellPresent),
-        Some(found) => {
-            if any_joined(cells, found) {
-                return Err(Refusal::TriangleTaken);
-            }
-            Ok(found)
+    // For each triangle of the corners the half-face on it, or none. Refused if a cell has the same four vertices, else if a triangle is in two cells.
+    pub(crate) fn partners(&self, corners: [u16; 4]) -> Result<[Option<u16>; 4], Refusal>
+        ensures { Partners (joined_rows self.now) corners result }
+    {
+        let found = self.scan(corners).ok_or(Refusal::CellPresent)?;
+        if self.any_joined(found) {
+            return Err(Refusal::TriangleTaken);
         }
+        Ok(found)
     }
 }

@@ -2,8 +2,7 @@
 ghost use Rattle.std.specs.Prelude.{◌≡◌, ℕ, ◌/◌, ◌<◌};
 ghost use Rattle.carry.specs.Turns.{turn_meaning};
 ghost use Rattle.rules.specs.NetTests.{turning};
-ghost use Rattle.ground.specs.Records.{rows};
-ghost use Rattle.ground.specs.Nets.{turn_net_web};
+ghost use Rattle.ground.specs.Nets.{joined_rows, turn_net_web};
 
 use crate::joined::Joined;
 use crate::row::read_alike;
@@ -19,7 +18,7 @@ impl<'c> TurnNet<'c> {
     // The step from half-face h to half-face g.
     fn turn_between(&self, h: usize, g: usize) -> Turn
         requires { (h / 4 < self.now.cells.count) × (g / 4 < self.now.cells.count) }
-        ensures { turn_meaning result ≡ turning (rows self.now.cells.records.now self.now.cells.count) h g }
+        ensures { turn_meaning result ≡ turning (joined_rows self.now.cells) h g }
     {
         let here = self.cells.reading(h);
         let there = self.cells.reading(g);

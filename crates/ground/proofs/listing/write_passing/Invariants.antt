@@ -2,4 +2,4 @@ use Rattle.rules.proofs.Listed.{Writing}
 use Rattle.ground.proofs.listing.write_passing.Given as goal
 
 abbrev pub invariant-loop-k : goal.invariant-loop-k
-invariant-loop-k g l = Writing (g.T.Test.passes l.test) l.k l.found l.initial.out l.out
+invariant-loop-k g l = Writing g.f l.k l.found l.initial.out l.out

@@ -2,10 +2,10 @@ use Rattle.std.proofs.Common.{ap}
 use Rattle.rules.specs.NetTests.{placed, cell_joins}
 use Rattle.ground.proofs.joined.Joined.place.Goals as goal
 
-pub returns-in-Some : goal.returns-in-Some
+pub returns-in_err-g : goal.returns-in_err-g
 unfolding cell_joins
-returns-in-Some c = ap placed c.in-Some.ensures
+returns-in_err-g c = rw c.from_residual.ensures (ap placed c.in_err-g.ensures)
 
-pub returns-in-None : goal.returns-in-None
+pub returns : goal.returns
 unfolding cell_joins
-returns-in-None c = ap placed c.in-None.ensures
+returns c = ap placed c.in_ok-g.ensures

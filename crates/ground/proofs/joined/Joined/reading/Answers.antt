@@ -7,4 +7,4 @@ pub returns : goal.returns
 returns c =
     let t = c.args.self.now in
     let h = c.args.h in
-    c.reading.ensures ∙ ap (λ (x : List ℕ). listed (face x (h % 4))) (sym (rows_at t.records.now t.count (h / 4) t.room c.requires))
+    c.read.ensures ∙ ap (λ (x : List ℕ). listed (face x (h % 4))) (sym (rows_at t.records.now t.count (h / 4) t.standing.room c.requires))

@@ -1,30 +1,44 @@
-use Rattle.std.proofs.Common.{length, refl}
-use Rattle.rules.specs.Questions.{AtEdge, EdgeStarCause}
+use Rattle.std.proofs.Common.{◌≡◌, ℕ, Err, List, length, refl, subst}
+use Rattle.std.proofs.lemmas.Result.{err_from_is_err_and}
+use Rattle.refusal.specs.declared.Refusal.TheVariants.{VertexTooHigh}
+use Rattle.rules.specs.Questions.{AtEdge, EdgeStarCause, TellsEdgeStar}
 use Rattle.rules.specs.Tests.{picks}
 use Rattle.rules.proofs.Causes.{edge_first_high, edge_first_high_other, edge_first_equal, edge_first_short, no_edge_cause}
-use Rattle.ground.specs.Grounds.{plain_sealed}
+use Rattle.ground.specs.Grounds.{rows_of}
 use Rattle.ground.specs.Listed.{has_both}
+use Rattle.ground.specs.Nets.{joined_rows}
 use Rattle.ground.proofs.Asked.{edge_listed}
 use Rattle.ground.proofs.Telling.{told}
+use Rattle.ground.proofs.Viewed.{seen}
 use Rattle.ground.proofs.stage.Sealed.edge_star.Goals as goal
 
-pub returns-then-v-gt4095 : goal.returns-then-v-gt4095
-returns-then-v-gt4095 c = (edge_first_high (plain_sealed c.args.self.now).list c.args.v c.args.w (length c.args.out.now) c.if-v-gt4095.true, refl)
+pub returns-in_err-low : goal.returns-in_err-low
+returns-in_err-low c =
+    let p = err_from_is_err_and c.from_residual.result c.from_residual.ensures.1 in
+    let e : c.from_residual.result ≡ Err VertexTooHigh = cc (p.1, p.2, c.in_err-low.ensures.0) in
+    rw e (edge_first_high (rows_of c.args.self.now.cells) c.args.v c.args.w (length c.args.out.now) c.in_err-low.ensures.1, refl)
 
-pub returns-then-w-gt4095 : goal.returns-then-w-gt4095
-returns-then-w-gt4095 c = (edge_first_high_other (plain_sealed c.args.self.now).list c.args.v c.args.w (length c.args.out.now) c.if-w-gt4095.true, refl)
+pub returns-in_err-low-2 : goal.returns-in_err-low-2
+returns-in_err-low-2 c =
+    let p = err_from_is_err_and c.from_residual-in_err-low-2.result c.from_residual-in_err-low-2.ensures.1 in
+    let e : c.from_residual-in_err-low-2.result ≡ Err VertexTooHigh = cc (p.1, p.2, c.in_err-low-2.ensures.0) in
+    rw e (edge_first_high_other (rows_of c.args.self.now.cells) c.args.v c.args.w (length c.args.out.now) c.in_err-low-2.ensures.1, refl)
 
 pub returns-then-v-w : goal.returns-then-v-w
-returns-then-v-w c = (edge_first_equal (plain_sealed c.args.self.now).list c.args.v c.args.w (length c.args.out.now) c.if-v-gt4095.false c.if-w-gt4095.false c.if-v-w.true, refl)
+returns-then-v-w c = (edge_first_equal (rows_of c.args.self.now.cells) c.args.v c.args.w (length c.args.out.now) c.in_ok-low.ensures c.in_ok-low-2.ensures c.if-v-w.true, refl)
 
 pub returns : goal.returns
 returns c =
-    let g = c.args.self.now in
-    let rs = (plain_sealed g).list in
+    let t = c.joined.result in
+    let rs = joined_rows t in
     let v = c.args.v in
     let w = c.args.w in
     let n = length c.args.out.now in
-    let ks = picks (has_both g.cells.records.now v w) g.cells.count in
-    let a = edge_listed g.cells.records.now g.cells.count g.room v w in
-    told (EdgeStarCause rs v w n) (AtEdge rs v w) (has_both g.cells.records.now v w) g.cells.count a c.args.out.now c.list_star.new.out c.list_star.result c.list_star.auto.out
-    (edge_first_short rs v w n c.if-v-gt4095.false c.if-w-gt4095.false ks c.if-v-w.false a) (no_edge_cause rs v w n c.if-v-gt4095.false c.if-w-gt4095.false ks c.if-v-w.false a) c.list_star.ensures
+    let ks = picks (has_both t.records.now v w) t.count in
+    let a = edge_listed t.records.now t.count t.standing.room v w in
+    let low = c.in_ok-low.ensures in
+    let low-other = c.in_ok-low-2.ensures in
+    subst (λ (z : List (List ℕ)). TellsEdgeStar z v w c.args.out.now c.list_star.result c.list_star.new.out)
+    (seen t c.args.self.now.cells c.joined.ensures.records c.joined.ensures.many)
+    (told (EdgeStarCause rs v w n) (AtEdge rs v w) (has_both t.records.now v w) t.count a c.args.out.now c.list_star.new.out c.list_star.result c.list_star.auto.out
+    (edge_first_short rs v w n low low-other ks c.if-v-w.false a) (no_edge_cause rs v w n low low-other ks c.if-v-w.false a) c.list_star.ensures)

@@ -1,20 +1,26 @@
-use Rattle.std.proofs.Common.{ℕ, ◌/◌, ◌%◌, ◌<◌, List, sym, ap, ◌∙◌, arith}
-use Rattle.rules.specs.Readings.{face, listed}
+use Rattle.std.proofs.Common.{◌≡◌, ℕ, Err, List, ap, ◌∙◌, arith}
+use Rattle.std.proofs.lemmas.Result.{err_from_is_err_and}
+use Rattle.refusal.specs.declared.Refusal.TheVariants.{NoSuchNumber}
+use Rattle.rules.specs.NetTests.{read_at}
 use Rattle.rules.proofs.Causes.{first_no_half, no_half_cause}
-use Rattle.ground.specs.Grounds.{plain_sealed}
-use Rattle.ground.proofs.Records.{rows_at}
-use Rattle.ground.proofs.Asked.{many}
+use Rattle.ground.specs.Grounds.{rows_of}
+use Rattle.ground.proofs.Grounds.{many}
+use Rattle.ground.proofs.Viewed.{seen}
 use Rattle.ground.proofs.stage.Sealed.reading.Goals as goal
 
-pub returns-then-h-self : goal.returns-then-h-self
-returns-then-h-self c =
-    let g = c.args.self.now in
-    first_no_half (plain_sealed g).list c.args.h (omega (arith, many g, c.if-h-self.true))
+pub returns-in_err-h : goal.returns-in_err-h
+returns-in_err-h c =
+    let g = c.args.self.now.cells in
+    let p = err_from_is_err_and c.from_residual.result c.from_residual.ensures.1 in
+    let e : c.from_residual.result ≡ Err NoSuchNumber = cc (p.1, p.2, c.in_err-h.ensures.0) in
+    rw e (first_no_half (rows_of g) c.args.h (omega (arith, many g, c.in_err-h.ensures.1)))
 
 pub returns : goal.returns
 returns c =
-    let g = c.args.self.now in
-    let l : c.args.h / 4 < g.cells.count = omega (arith, c.if-h-self.false) in (
-      no_half_cause (plain_sealed g).list c.args.h (omega (arith, many g, c.if-h-self.false)),
-      c.reading.ensures ∙ ap (λ (x : List ℕ). listed (face x (c.args.h % 4))) (sym (rows_at g.cells.records.now g.cells.count (c.args.h / 4) g.room l)),
+    let g = c.args.self.now.cells in
+    let h = c.in_ok-h.ensures in (
+      no_half_cause (rows_of g) c.args.h (omega (arith, many g, h.0, h.1)),
+      c.reading.ensures
+          ∙ ap (λ (z : List (List ℕ)). read_at z c.in_ok-h.h) (seen c.joined.result g c.joined.ensures.records c.joined.ensures.many)
+          ∙ ap (read_at (rows_of g)) h.0,
     )

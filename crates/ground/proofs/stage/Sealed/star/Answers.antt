@@ -1,23 +1,33 @@
-use Rattle.std.proofs.Common.{length, refl}
-use Rattle.rules.specs.Questions.{AtVertex, StarCause}
+use Rattle.std.proofs.Common.{◌≡◌, ℕ, Err, List, length, refl, subst}
+use Rattle.std.proofs.lemmas.Result.{err_from_is_err_and}
+use Rattle.refusal.specs.declared.Refusal.TheVariants.{VertexTooHigh}
+use Rattle.rules.specs.Questions.{AtVertex, StarCause, TellsStar}
 use Rattle.rules.specs.Tests.{picks}
 use Rattle.rules.proofs.Causes.{star_first_high, star_first_short, no_star_cause}
-use Rattle.ground.specs.Grounds.{plain_sealed}
+use Rattle.ground.specs.Grounds.{rows_of}
 use Rattle.ground.specs.Listed.{has_both}
+use Rattle.ground.specs.Nets.{joined_rows}
 use Rattle.ground.proofs.Asked.{star_listed}
 use Rattle.ground.proofs.Telling.{told}
+use Rattle.ground.proofs.Viewed.{seen}
 use Rattle.ground.proofs.stage.Sealed.star.Goals as goal
 
-pub returns-then-v-gt4095 : goal.returns-then-v-gt4095
-returns-then-v-gt4095 c = (star_first_high (plain_sealed c.args.self.now).list c.args.v (length c.args.out.now) c.if-v-gt4095.true, refl)
+pub returns-in_err-low : goal.returns-in_err-low
+returns-in_err-low c =
+    let p = err_from_is_err_and c.from_residual.result c.from_residual.ensures.1 in
+    let e : c.from_residual.result ≡ Err VertexTooHigh = cc (p.1, p.2, c.in_err-low.ensures.0) in
+    rw e (star_first_high (rows_of c.args.self.now.cells) c.args.v (length c.args.out.now) c.in_err-low.ensures.1, refl)
 
 pub returns : goal.returns
 returns c =
-    let g = c.args.self.now in
-    let rs = (plain_sealed g).list in
+    let t = c.joined.result in
+    let rs = joined_rows t in
     let v = c.args.v in
     let n = length c.args.out.now in
-    let ks = picks (has_both g.cells.records.now v v) g.cells.count in
-    let a = star_listed g.cells.records.now g.cells.count g.room v in
-    told (StarCause rs v n) (AtVertex rs v) (has_both g.cells.records.now v v) g.cells.count a c.args.out.now c.list_star.new.out c.list_star.result c.list_star.auto.out
-    (star_first_short rs v n ks c.if-v-gt4095.false a) (no_star_cause rs v n ks c.if-v-gt4095.false a) c.list_star.ensures
+    let ks = picks (has_both t.records.now v v) t.count in
+    let a = star_listed t.records.now t.count t.standing.room v in
+    let low = c.in_ok-low.ensures in
+    subst (λ (z : List (List ℕ)). TellsStar z v c.args.out.now c.list_star.result c.list_star.new.out)
+    (seen t c.args.self.now.cells c.joined.ensures.records c.joined.ensures.many)
+    (told (StarCause rs v n) (AtVertex rs v) (has_both t.records.now v v) t.count a c.args.out.now c.list_star.new.out c.list_star.result c.list_star.auto.out
+    (star_first_short rs v n ks low a) (no_star_cause rs v n ks low a) c.list_star.ensures)

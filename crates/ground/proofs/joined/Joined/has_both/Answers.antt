@@ -1,6 +1,6 @@
 use Rattle.std.proofs.Common.{rules}
 use Rattle.ground.specs.Listed.{has_both}
-use Rattle.ground.proofs.listing.AtBothTest.pass.Goals as goal
+use Rattle.ground.proofs.joined.Joined.has_both.Goals as goal
 
 pub returns-then-has : goal.returns-then-has
 unfolding has_both

@@ -1,6 +1,6 @@
 use Rattle.std.proofs.Common.{◌≡◌, ℕ, Bool, true, false, not, is_some, Some, None, Option, refl, ap, ◌∙◌}
 use Rattle.ground.specs.Listed.{none_there, open_at}
-use Rattle.ground.proofs.listing.UnjoinedTest.pass.Goals as goal
+use Rattle.ground.proofs.joined.Joined.is_open.Goals as goal
 
 none_is : (o : Option ℕ) (b : Bool) → is_some o ≡ not b → b ≡ none_there o
 none_is None true e = refl
