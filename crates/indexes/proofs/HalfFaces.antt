@@ -21,4 +21,4 @@ skin_told rs h (Some g) false s e = (λ p. let z : ◌≡◌ {A = ℕ} 0 1 = cc 
 
 -- a ground has 1,024 cells at most
 pub few_cells : (g : Sealed) → length (plain_sealed g).list ≤ 1024
-few_cells g = simp (length-map, length-take) (omega (arith, g.few))
+few_cells g = simp (length-map, length-take) (omega (arith, g.cells.few))

@@ -16,7 +16,7 @@ few P _ _ (skip w p) = let h = few P _ _ w in omega arith
 pub few_rows : (g : Open) → length (plain g).list ≤ 1024
 few_rows g =
     let a = length-map (take g.cells.count g.cells.records.now) corners_of in
-    let b = length-take-le g.cells.count g.cells.records.now g.room in
-    let d = g.few in
-    let e = g.room in
+    let b = length-take-le g.cells.count g.cells.records.now g.cells.standing.room in
+    let d = g.cells.few in
+    let e = g.cells.standing.room in
     omega arith
