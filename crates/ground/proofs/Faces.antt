@@ -1,7 +1,5 @@
 -- The test of two triangles for the same vertices, and what a scan that uses it has seen.
-use Rattle.std.proofs.Common.{◌≡◌, ℕ, ◌+◌, ◌-◌, ◌*◌, ◌%◌, ◌<◌, ◌≤◌, Bool, true, false, not, ◌&&◌, ◌||◌, eqb, ◌⊎◌, List, [], get_or, Some, None, Option, sym, refl, ap, ◌∙◌, subst, inl, inr, ⊎_elim, arith}
-use Rattle.std.specs.List.{find, range_with_len}
-use Rattle.std.specs.Option.{option_or}
+use Rattle.std.proofs.Common.{◌≡◌, ℕ, ◌+◌, ◌-◌, ◌*◌, ◌<◌, ◌≤◌, Bool, true, false, not, ◌&&◌, ◌||◌, eqb, ◌⊎◌, List, [], get_or, Some, None, Option, sym, refl, ap, ◌∙◌, subst, inl, inr, ⊎_elim, arith}
 use Rattle.std.proofs.lemmas.Bool.{eqb-true, eqb-false, cases_Bool, cases_lt, both_ways, and_parts, and_from, or_cases, or_left, or_right, not-true, cond-true, cond-false}
 use Rattle.rules.specs.Tests.{on, on_face, SameOn}
 use Rattle.rules.proofs.Corners.{by_four, on_other, both}
@@ -48,30 +46,16 @@ face_from x i y j s = and_from (within x i y j) (within y j x i) (within_from x 
 pub face_not : (x : List ℕ) (i : ℕ) (y : List ℕ) (j : ℕ) → same_face x i y j ≡ false → SameOn x i y j → ⊥
 face_not x i y j n s = both_ways (same_face x i y j) n (face_from x i y j s)
 
--- the first of four numbers from h on that passes, or none does
-find_cases : (f : ℕ → Bool) (h : ℕ)
-    → ((j : ℕ) × (j < 4) × (f (h + j) ≡ true) × (find f (range_with_len h 4) ≡ Some (h + j))) ⊎ (((j : ℕ) → j < 4 → f (h + j) ≡ false) × (find f (range_with_len h 4) ≡ None))
-find_cases f h =
-    ⊎_elim (λ p. inl (0, omega arith, ap f (omega arith) ∙ p, cond-true _ _ _ p ∙ ap Some (omega arith))) (λ a.
-    ⊎_elim (λ p. inl (1, omega arith, p, cond-false _ _ _ a ∙ cond-true _ _ _ p)) (λ b.
-    ⊎_elim (λ p. inl (2, omega arith, ap f (omega arith) ∙ p, cond-false _ _ _ a ∙ cond-false _ _ _ b ∙ cond-true _ _ _ p ∙ ap Some (omega arith))) (λ d.
-    ⊎_elim (λ p. inl (3, omega arith, ap f (omega arith) ∙ p, cond-false _ _ _ a ∙ cond-false _ _ _ b ∙ cond-false _ _ _ d ∙ cond-true _ _ _ p ∙ ap Some (omega arith))) (λ e.
-    inr (by_four (λ (j : ℕ). f (h + j) ≡ false) (ap f (omega arith) ∙ a) b (ap f (omega arith) ∙ d) (ap f (omega arith) ∙ e), cond-false _ _ _ a ∙ cond-false _ _ _ b ∙ cond-false _ _ _ d ∙ cond-false _ _ _ e))
-    (cases_Bool (f (h + 1 + 1 + 1)))) (cases_Bool (f (h + 1 + 1)))) (cases_Bool (f (h + 1)))) (cases_Bool (f h))
-
-pub find_none : (f : ℕ → Bool) (h : ℕ) → ((j : ℕ) → j < 4 → f (h + j) ≡ false) → find f (range_with_len h 4) ≡ None
-find_none f h n = ⊎_elim (λ w. absurd (both_ways (f (h + w.0)) (n w.0 w.1) w.2)) (λ w. w.1) (find_cases f h)
-
 -- either one of the four half-faces of y is on triangle i of x, and is picked, or what was found before stays
-pick_cases : (o : Option ℕ) (x : List ℕ) (i : ℕ) (y : List ℕ) (n : ℕ)
-    → ((j : ℕ) × (j < 4) × (same_face x i y j ≡ true) × (picked o x i y (4 * n) ≡ Some (4 * n + j))) ⊎ (((j : ℕ) → j < 4 → same_face x i y j ≡ false) × (picked o x i y (4 * n) ≡ o))
-pick_cases o x i y n =
-    let side : (j : ℕ) → j < 4 → same_face x i y j ≡ same_face x i y ((4 * n + j) % 4) = λ j l. ap (same_face x i y) (omega arith) in
-    let or : (z : Option ℕ) → find (λ g. same_face x i y (g % 4)) (range_with_len (4 * n) 4) ≡ z → picked o x i y (4 * n) ≡ option_or z o = λ z e. ap (λ (q : Option ℕ). option_or q o) e in
-    ⊎_elim
-    (λ w. inl (w.0, w.1, side w.0 w.1 ∙ w.2, or (Some (4 * n + w.0)) w.3))
-    (λ w. inr (λ j l. side j l ∙ w.0 j l, or None w.1))
-    (find_cases (λ g. same_face x i y (g % 4)) (4 * n))
+pick_cases : (o : Option ℕ) (x : List ℕ) (i : ℕ) (y : List ℕ) (h : ℕ)
+    → ((j : ℕ) × (j < 4) × (same_face x i y j ≡ true) × (picked o x i y h ≡ Some (h + j))) ⊎ (((j : ℕ) → j < 4 → same_face x i y j ≡ false) × (picked o x i y h ≡ o))
+pick_cases o x i y h =
+    ⊎_elim (λ p. inl (0, omega arith, p, cond-true _ _ _ p ∙ ap Some (omega arith))) (λ a.
+    ⊎_elim (λ p. inl (1, omega arith, p, cond-false _ _ _ a ∙ cond-true _ _ _ p)) (λ b.
+    ⊎_elim (λ p. inl (2, omega arith, p, cond-false _ _ _ a ∙ cond-false _ _ _ b ∙ cond-true _ _ _ p)) (λ d.
+    ⊎_elim (λ p. inl (3, omega arith, p, cond-false _ _ _ a ∙ cond-false _ _ _ b ∙ cond-false _ _ _ d ∙ cond-true _ _ _ p)) (λ e.
+    inr (by_four (λ (j : ℕ). same_face x i y j ≡ false) a b d e, cond-false _ _ _ a ∙ cond-false _ _ _ b ∙ cond-false _ _ _ d ∙ cond-false _ _ _ e))
+    (cases_Bool (same_face x i y 3))) (cases_Bool (same_face x i y 2))) (cases_Bool (same_face x i y 1))) (cases_Bool (same_face x i y 0))
 
 -- one row more
 module _ (rs : List (List ℕ)) (x : List ℕ) (i n : ℕ) (o : Option ℕ) (y : List ℕ) (e : get_or rs n [] ≡ y) (s : Seen rs x i (4 * n) o) where
@@ -103,7 +87,7 @@ module _ (rs : List (List ℕ)) (x : List ℕ) (i n : ℕ) (o : Option ℕ) (y :
       ⊎_elim
       (λ w. subst (Seen rs x i (4 * (n + 1))) (sym w.3) (here w.0 w.1 w.2))
       (λ w. subst (Seen rs x i (4 * (n + 1))) (sym w.1) (still w.0))
-      (pick_cases o x i y n)
+      (pick_cases o x i y (4 * n))
 
 pub passed_more : (rs : List (List ℕ)) (x : List ℕ) (n : ℕ) (os : List (Option ℕ)) (y : List ℕ) → get_or rs n [] ≡ y → same_face y 4 x 4 ≡ false → Passed rs x n os → Passed rs x (n + 1) (picked_all os x y (4 * n))
 passed_more rs x n os y e ne p = record {

@@ -1,12 +1,12 @@
 -- What stands of the records as a record of facts, and the plain list of a ground.
-use Rattle.std.proofs.Common.{◌≡◌, ℕ, ◌+◌, ◌*◌, ◌<◌, ◌≤◌, List, length, get_or, None, Option, sym, ◌∙◌, subst, arith}
+use Rattle.std.proofs.Common.{◌≡◌, ℕ, ◌+◌, ◌*◌, ◌<◌, ◌≤◌, List, length, get_or, None, sym, ◌∙◌, subst, arith}
 use Rattle.ground.specs.declared.cell.Cell.{Cell}
 use Rattle.ground.specs.declared.cells.Cells.{Cells}
 use Rattle.rules.specs.PlainList.{Plain}
 use Rattle.rules.specs.Tests.{on_face}
 use Rattle.ground.specs.Grounds.{rows_of}
 use Rattle.ground.specs.Records.{rows, join_at, blank, Near, AllNear}
-use Rattle.ground.specs.Searches.{Standing, Met}
+use Rattle.ground.specs.Searches.{Standing}
 use Rattle.ground.proofs.Records.{length_rows}
 use Rattle.ground.proofs.Turned.{Facts, exact_of, near_of, other_of, same_of, whole_of, near_some, join_at_lem}
 
@@ -44,15 +44,6 @@ near_join cs n t i f h k = near_some (length cs) _ (λ w p.
 pub near_all : (cs : List Cell) (n t : ℕ) → Facts cs n → t < n → AllNear (length cs) (get_or cs t blank).joins
 near_all cs n t f h =
     let at = λ (i : ℕ) (k : i < 4). near_join cs n t i f h k in
-    (at 0 (omega arith), at 1 (omega arith), at 2 (omega arith), at 3 (omega arith))
-
--- so has what a new row meets
-pub near_met : (cs : List Cell) (n : ℕ) (x : List ℕ) (ws : List (Option ℕ)) → n ≤ length cs → Met (rows cs n) x ws → AllNear (length cs) ws
-near_met cs n x ws r m =
-    let e = length_rows cs n r in
-    let at : (i : ℕ) → i < 4 → Near (length cs) (get_or ws i None) = λ i l. near_some (length cs) (get_or ws i None) (λ k p.
-    let q : k < 4 * length (rows cs n) = (m.sound i k l p).0 in
-    omega arith) in
     (at 0 (omega arith), at 1 (omega arith), at 2 (omega arith), at 3 (omega arith))
 
 pub many : (g : Cells) → length (rows_of g) ≡ g.count

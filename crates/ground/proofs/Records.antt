@@ -5,7 +5,7 @@ use Rattle.std.proofs.lemmas.List.{length-set, get_or-set_same, get_or-set_other
 use Rattle.std.proofs.lemmas.Bool.{eq-eqb, ne_eqb, cases_eq, cases_lt, cond-true, cond-false}
 use Rattle.ground.specs.declared.cell.Cell.{Cell}
 use Rattle.rules.specs.Rows.{turned_row}
-use Rattle.rules.specs.Tests.{on, names}
+use Rattle.rules.specs.Tests.{names}
 use Rattle.ground.specs.Records.{blank, corners_of, rows, join_at, relinked, turned_cell, turned_cells}
 
 pub length_rows : (cs : List Cell) (n : ℕ) → n ≤ length cs → length (rows cs n) ≡ n
@@ -77,10 +77,6 @@ join_at_relinked cs (Some g) to h k =
     (λ e. join_at_named cs g h to k e ∙ sym (cond-true (eqb g h) to (join_at cs h) (eq-eqb g h (sym e))))
     (λ d. join_at_unnamed cs g h to k d ∙ sym (cond-false (eqb g h) to (join_at cs h) (ne_eqb g h (λ q. d (sym q)))))
     (cases_eq h g)
-
--- the triangles and the vertices of a turned row
-pub on_turned_0 : (x : List ℕ) (v : ℕ) → on (turned_row x) 0 v ≡ on x 0 v
-on_turned_0 x v = grind arith
 
 pub rows_turned : (cs : List Cell) (n t : ℕ) → n ≤ length cs → t < n → rows (turned_cells cs t) n ≡ set (rows cs n) t (turned_row (get_or (rows cs n) t []))
 rows_turned cs n t l h =

@@ -6,7 +6,7 @@ use Rattle.std.proofs.lemmas.Bool.{cases_eq, cases_lt, cases_order, cond-true, c
 use Rattle.ground.specs.declared.cell.Cell.{Cell}
 use Rattle.rules.specs.Tests.{on, on_face, Below, Differ, Apart, Fine, names}
 use Rattle.rules.proofs.Corners.{by_four, faces_apart}
-use Rattle.ground.specs.Records.{blank, corners_of, rows, join_at, relinked_all, faces_of, nones, freed, moved_cells, lifted_cells, Near, AllNear, Four}
+use Rattle.ground.specs.Records.{blank, corners_of, rows, join_at, relinked_all, faces_of, nones, freed, moved_cells, lifted_cells, Near, AllNear, Linked, Four}
 use Rattle.rules.proofs.Append.{which}
 use Rattle.rules.proofs.Exact.{Exact, names_some, back, renumber}
 use Rattle.ground.proofs.Laid.{length_relinked_all, rows_relinked_all, four_relinked_all, joins_relinked_all}
@@ -117,10 +117,13 @@ module _ (cs : List Cell) (p t : ℕ) (tl : t ≤ p) (f : Facts cs (p + 1)) wher
       let z : 4 * p + i ≡ 4 * p + k = some_eq (4 * p + i) (4 * p + k) (sym (turnback (4 * p + i) h (omega arith) (p_join i h a q)) ∙ turnback (4 * p + k) h (omega arith) (p_join k h b r)) in
       omega arith
 
-  pub near_p : AllNear (length cs) (get_or (freed cs t) p blank).joins
+  near_p : AllNear (length cs) (get_or (freed cs t) p blank).joins
   near_p =
       let at : (i : ℕ) → i < 4 → Near (length cs) (get_or (get_or (freed cs t) p blank).joins i None) = λ i a. near_some (length cs) _ (λ g q. let r : g < 4 * (p + 1) = p_near i g a q in let s = room in omega arith) in
       (at 0 (omega arith), at 1 (omega arith), at 2 (omega arith), at 3 (omega arith))
+
+  pub linked_p : p < 1024 → Linked (freed cs t) p
+  linked_p low = let r = room_1 in record { low = low; inside = omega arith; near = rw len_1 near_p }
 
   fine : (u : ℕ) → u < p + 1 → Fine (get_or (rows cs (p + 1)) u [])
   fine u l = let m : u < length (rows cs (p + 1)) = rw len l in record { below = λ i b. f.below u i (m, b); differ = λ i j a b z. f.differ u i j (m, a, b, z) }

@@ -1,12 +1,11 @@
 -- A row that shares fewer than three vertices with another meets none of its triangles.
-use Rattle.std.proofs.Common.{◌≡◌, ℕ, ◌+◌, ◌%◌, ◌<◌, ◌≤◌, Bool, true, false, cond, List, [], ◌∷◌, length, get_or, Some, None, Option, sym, refl, ap, ◌∙◌, ⊎_elim, arith}
+use Rattle.std.proofs.Common.{◌≡◌, ℕ, ◌+◌, ◌<◌, ◌≤◌, Bool, true, false, cond, List, [], ◌∷◌, length, get_or, Some, None, Option, sym, refl, ap, ◌∙◌, ⊎_elim, arith}
 use Rattle.std.specs.List.{count_by}
-use Rattle.std.specs.Option.{option_or}
 use Rattle.std.proofs.lemmas.Bool.{cases_eq, cases_Bool, cond-true, cond-false}
 use Rattle.rules.specs.Tests.{on, SameOn}
 use Rattle.rules.proofs.Corners.{on_other, test_at, in_to}
 use Rattle.ground.specs.Searches.{same_face, picked, picked_all, met_with}
-use Rattle.ground.proofs.Faces.{face_to, find_none}
+use Rattle.ground.proofs.Faces.{face_to}
 
 -- a list of four, written out
 pub four_of : {A : Type 0} → (xs : List A) (d : A) → length xs ≡ 4 → get_or xs 0 d ∷ get_or xs 1 d ∷ get_or xs 2 d ∷ get_or xs 3 d ∷ [] ≡ xs
@@ -49,9 +48,8 @@ apart_whole x y e l = ⊎_elim (λ p. absurd (omega (arith, shares x y 4 4 e (λ
 -- so the row adds nothing to what was found
 pub unmet : (os : List (Option ℕ)) (x y : List ℕ) (h : ℕ) → length os ≡ 4 → length x ≡ 4 → count_by (on y 4) x < 3 → Some os ≡ met_with os x y h
 unmet os x y h e x4 l =
-    let none : (i g : ℕ) → same_face x i y (g % 4) ≡ false = λ i g. apart x y x4 l i (g % 4) in
     let still : (o : Option ℕ) (i : ℕ) → o ≡ picked o x i y h = λ o i.
-    sym (ap (λ (z : Option ℕ). option_or z o) (find_none (λ g. same_face x i y (g % 4)) h (λ j k. none i (h + j)))) in
+    sym (cond-false _ _ _ (apart x y x4 l i 0) ∙ cond-false _ _ _ (apart x y x4 l i 1) ∙ cond-false _ _ _ (apart x y x4 l i 2) ∙ cond-false _ _ _ (apart x y x4 l i 3)) in
     let a = still (get_or os 0 None) 0 in
     let b = still (get_or os 1 None) 1 in
     let d = still (get_or os 2 None) 2 in

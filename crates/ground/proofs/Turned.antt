@@ -233,10 +233,6 @@ module _ (cs : List Cell) (n t : ℕ) (h : t < n) (f : Facts cs n) where
       (λ ne. subst (λ (y : List ℕ). get_or y i 0 < 4096) (sym (there u ne)) (f.below u i (rw (length_rows cs n f.room) l, k)))
       (cases_eq u t)
 
-  -- the corner of the old row at place i of the new
-  abbrev flip : ℕ → ℕ
-  flip i = cond (eqb i 2) 3 (cond (eqb i 3) 2 i)
-
   differ_row : (i k : ℕ) → i < k → k < 4 → get_or (turned_row (get_or (rows cs n) t [])) i 0 ≡ get_or (turned_row (get_or (rows cs n) t [])) k 0 → ⊥
   differ_row i k p q z =
       let d01 = λ (y : get_or (get_or (rows cs n) t []) 0 0 ≡ get_or (get_or (rows cs n) t []) 1 0). f.differ t 0 1 (private_in, omega arith, omega arith, y) in

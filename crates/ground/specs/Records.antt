@@ -67,6 +67,12 @@ relinked_all = relinked_first 4
 abbrev pub AllNear : ℕ → List (Option ℕ) → Type 0
 AllNear n ws = Near n (slice_index_or ws 0 None) × Near n (slice_index_or ws 1 None) × Near n (slice_index_or ws 2 None) × Near n (slice_index_or ws 3 None)
 
+-- place t holds a cell whose neighbours have places, among places with half-faces below 4,096
+pub record Linked (cs : List Cell) (t : ℕ) : Type 0 where
+  pub low : t < 1024
+  pub inside : t < length cs
+  pub near : AllNear (length cs) (slice_index_or cs t blank).joins
+
 -- the half-faces of cell t
 abbrev pub faces_of : ℕ → List (Option ℕ)
 faces_of t = Some (4 * t) ∷ Some (4 * t + 1) ∷ Some (4 * t + 2) ∷ Some (4 * t + 3) ∷ []

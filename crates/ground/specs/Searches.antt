@@ -1,7 +1,5 @@
 -- The search for the half-faces that the four triangles of a new row meet.
-use Rattle.std.specs.Prelude.{◌≡◌, ℕ, ◌*◌, ◌%◌, ◌<◌, ◌≤◌, Bool, false, cond, ◌&&◌, ◌||◌, ◌⊎◌, List, [], ◌∷◌, length, is_some, Some, None, Ok, Err, Option, Result, ◌==◌, slice_index, slice_index_or}
-use Rattle.std.specs.List.{find, range_with_len}
-use Rattle.std.specs.Option.{option_or}
+use Rattle.std.specs.Prelude.{◌≡◌, ℕ, ◌+◌, ◌*◌, ◌<◌, ◌≤◌, Bool, false, cond, ◌&&◌, ◌||◌, ◌⊎◌, List, [], ◌∷◌, length, is_some, Some, None, Ok, Err, Option, Result, ◌==◌, slice_index, slice_index_or}
 use Rattle.refusal.specs.declared.Refusal.{Refusal}
 use Rattle.refusal.specs.declared.Refusal.TheVariants.{CellPresent, TriangleTaken}
 use Rattle.rules.specs.PlainList.{StandsIn, CrowdedIn}
@@ -64,7 +62,7 @@ same_face x i y j = within x i y j && within y j x i
 
 -- the half-face of the row y, the first of which is h, on triangle i of x; else what was found before
 abbrev pub picked : Option ℕ → List ℕ → ℕ → List ℕ → ℕ → Option ℕ
-picked o x i y h = option_or (find (λ g. same_face x i y (g % 4)) (range_with_len h 4)) o
+picked o x i y h = cond (same_face x i y 0) (Some h) (cond (same_face x i y 1) (Some (h + 1)) (cond (same_face x i y 2) (Some (h + 2)) (cond (same_face x i y 3) (Some (h + 3)) o)))
 
 abbrev pub picked_all : List (Option ℕ) → List ℕ → List ℕ → ℕ → List (Option ℕ)
 picked_all os x y h = picked (slice_index_or os 0 None) x 0 y h ∷ picked (slice_index_or os 1 None) x 1 y h ∷ picked (slice_index_or os 2 None) x 2 y h ∷ picked (slice_index_or os 3 None) x 3 y h ∷ []

@@ -10,7 +10,8 @@ use carry::{Turn, carry};
 use refusal::Refusal;
 
 // The vertices of each cell are below 4,096 and differ, no two cells have the same four, and two
-// half-faces are joined exactly if they have the same three. The first `count` places are in use.
+// half-faces are joined exactly if they have the same three. The first `count` places are in use; the
+// list is the caller's and no heap is used, so that there are places behind them.
 #[derive(Drop)]
 pub struct Cells<'a> {
     pub(crate) records: &'a mut [Cell],

@@ -7,6 +7,7 @@ mod counts;
 mod joined;
 mod links;
 mod listing;
+mod numbers;
 mod open;
 mod row;
 mod sealed;

@@ -1,6 +1,6 @@
 //! Writes of records: each keeps the joins of the neighbours in step.
-ghost use Rattle.std.specs.Prelude.{◌≡◌, ◌<◌, ◌≤◌, length, slice_index_or};
-ghost use Rattle.ground.specs.Records.{relinked, Near, relinked_all, AllNear, faces_of, nones, freed, moved_cells, turned_cells, laid_cells, lifted_cells, blank};
+ghost use Rattle.std.specs.Prelude.{◌≡◌, ◌<◌, ◌≤◌, length};
+ghost use Rattle.ground.specs.Records.{relinked, Near, relinked_all, AllNear, faces_of, nones, freed, moved_cells, turned_cells, laid_cells, lifted_cells, Linked};
 
 use crate::cell::Cell;
 
@@ -17,8 +17,7 @@ fn relink(cells: &mut [Cell], whom: Option<u16>, to: Option<u16>)
 
 // Exchanges corners 2 and 3 of cell t.
 pub(crate) fn turn_cell(cells: &mut [Cell], t: usize)
-    requires t_bound { (t < 1024) × (t < length cells.old) }
-    requires all_near { AllNear (length cells.old) (slice_index_or cells.old t blank).joins }
+    requires { Linked cells.old t }
     ensures { cells.new ≡ turned_cells cells.old t }
 {
     let [_, _, r, s] = cells[t].joins;
@@ -49,7 +48,9 @@ fn faces_of(t: usize) -> [Option<u16>; 4]
 
 // Writes a new cell at the end, with its joins found already, and joins its neighbours to it.
 pub(crate) fn lay_cell(cells: &mut [Cell], count: usize, corners: [u16; 4], joins: [Option<u16>; 4])
-    requires { (count < 1024) × ((count < length cells.old) × (AllNear (length cells.old) joins)) }
+    requires low { count < 1024 }
+    requires inside { count < length cells.old }
+    requires near { AllNear (length cells.old) joins }
     ensures { cells.new ≡ laid_cells cells.old count corners joins }
 {
     cells[count] = Cell { corners, joins };
@@ -59,7 +60,7 @@ pub(crate) fn lay_cell(cells: &mut [Cell], count: usize, corners: [u16; 4], join
 
 // Leaves cell t with no neighbour that names it.
 fn free_cell(cells: &mut [Cell], t: usize)
-    requires { (t < length cells.old) × (AllNear (length cells.old) (slice_index_or cells.old t blank).joins) }
+    requires { Linked cells.old t }
     ensures { cells.new ≡ freed cells.old t }
 {
     let whom = cells[t].joins;
@@ -68,7 +69,8 @@ fn free_cell(cells: &mut [Cell], t: usize)
 
 // Writes cell `last` over cell t, and joins its neighbours to t.
 fn move_cell(cells: &mut [Cell], last: usize, t: usize)
-    requires { (t < 1024) × ((t < length cells.old) × ((last < length cells.old) × (AllNear (length cells.old) (slice_index_or cells.old last blank).joins))) }
+    requires before { t < last }
+    requires linked { Linked cells.old last }
     ensures { cells.new ≡ moved_cells cells.old last t }
 {
     let cell = cells[last];
@@ -79,9 +81,9 @@ fn move_cell(cells: &mut [Cell], last: usize, t: usize)
 
 // Takes cell t out: cell `last` takes its place, unless t is the last.
 pub(crate) fn lift_cell(cells: &mut [Cell], last: usize, t: usize)
-    requires t_le_last { (t ≤ last) × ((last < 1024) × (last < length cells.old)) }
-    requires all_near { AllNear (length cells.old) (slice_index_or cells.old t blank).joins }
-    requires all_near_2 { AllNear (length cells.old) (slice_index_or (freed cells.old t) last blank).joins }
+    requires up_to_last { t ≤ last }
+    requires linked { Linked cells.old t }
+    requires last_linked { Linked (freed cells.old t) last }
     ensures { cells.new ≡ lifted_cells cells.old last t }
 {
     free_cell(cells, t);

@@ -8,7 +8,8 @@ use crate::joined::Joined;
 use crate::row::has;
 use refusal::Refusal;
 
-// How many numbers below n pass.
+// How many numbers below n pass. A loop, here and below: of the closure of `(0..n).filter(..)` it cannot be shown that it is
+// called below n alone, and a test of a cell may be called there alone.
 fn count_passing<F: Fn(usize) -> bool>(passes: &F, n: usize) -> usize
     ghost f: { ℕ → Bool }
     requires { TestsBelow (F.pre passes.now) (F.post passes.now) f n }

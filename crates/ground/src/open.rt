@@ -1,5 +1,5 @@
 //! What an open ground allows: lay, lift, turn, orient and seal.
-ghost use Rattle.std.specs.Prelude.{◌≡◌, ℕ, ◌+◌, ◌<◌, ◌≤◌, MatchResult, min, length};
+ghost use Rattle.std.specs.Prelude.{◌≡◌, ◌+◌, min, length};
 ghost use Rattle.rules.specs.Rows.{row};
 ghost use Rattle.rules.specs.PlainList.{empty, Lays, Lifts, Turns};
 ghost use Rattle.rules.specs.Orients.{Orients, RefusedExactly, OpposedAfter, OrientsOnce};
@@ -7,6 +7,7 @@ ghost use Rattle.ground.specs.Grounds.{plain, plain_sealed, places_of, Kept};
 
 use crate::cell::Cell;
 use crate::cells::Cells;
+use crate::numbers::numbered;
 use crate::row::{repeated, too_high};
 use crate::stage::{Open, Sealed};
 use carry::Turn;
@@ -32,17 +33,6 @@ fn one_more(changes: u16) -> u16
 }
 
 impl<'a> Open<'a> {
-    // The number of cell t, if there is one.
-    fn cell(&self, t: u16) -> Result<usize, Refusal>
-        ensures { MatchResult result (λ k. (k ≡ t) × (k < self.now.cells.count)) (λ cause. (cause ≡ Refusal.NoSuchNumber) × (self.now.cells.count ≤ t)) }
-    {
-        let t = t as usize;
-        if t >= self.cells.count {
-            return Err(Refusal::NoSuchNumber);
-        }
-        Ok(t)
-    }
-
     /// Appends the cell a b c d and answers its number.
     pub fn lay(&mut self, a: u16, b: u16, c: u16, d: u16) -> Result<u16, Refusal>
         ensures lays { Lays (plain self.old) (row a b c d) result (plain self.new) }
@@ -70,7 +60,7 @@ impl<'a> Open<'a> {
         ensures lifts { Lifts (plain self.old) t result (plain self.new) }
         ensures kept { Kept result (places_of self.old) (places_of self.new) }
     {
-        let t = self.cell(t)?;
+        let t = numbered(t, self.cells.count)?;
         self.cells.remove(t);
         self.changes = one_more(self.changes);
         Ok(())
@@ -81,7 +71,7 @@ impl<'a> Open<'a> {
         ensures turns { Turns (plain self.old) t result (plain self.new) }
         ensures kept { Kept result (places_of self.old) (places_of self.new) }
     {
-        let t = self.cell(t)?;
+        let t = numbered(t, self.cells.count)?;
         self.cells.turn(t);
         self.changes = one_more(self.changes);
         Ok(())

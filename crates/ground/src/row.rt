@@ -11,7 +11,7 @@ pub(crate) fn too_high(corners: [u16; 4]) -> bool
     corners.iter().any(|&v| v > 4095)
 }
 
-// Whether two of the vertices are equal.
+// Whether two of the vertices are equal. Six comparisons, since to search the slice before each vertex is longer to say.
 pub(crate) fn repeated(corners: [u16; 4]) -> bool
     ensures { result ≡ repeat_test corners }
 {
@@ -26,7 +26,7 @@ pub(crate) fn has(row: [u16; 4], i: usize, v: u16) -> bool
     row.iter().enumerate().any(|(k, &w)| k != i && w == v)
 }
 
-// What half-face i of the row reads.
+// What half-face i of the row reads: a table, since places of a constant to read from would have to be looked up again.
 pub(crate) fn read(row: [u16; 4], i: usize) -> [u16; 3]
     requires { i < 4 }
     ensures { result ≡ listed (face row i) }

@@ -1,5 +1,5 @@
 //! The questions of a sealed ground.
-ghost use Rattle.std.specs.Prelude.{◌≡◌, ℕ, ◌*◌, ◌<◌, ◌≤◌, MatchResult, length};
+ghost use Rattle.std.specs.Prelude.{◌≡◌, ◌≤◌};
 ghost use Rattle.rules.specs.Joins.{NoThree, LawfulRows};
 ghost use Rattle.rules.specs.Questions.{Counted, TellsReading, TellsOpposite, OnlyOpposite, TellsStar, TellsEdgeStar, TellsSkin};
 ghost use Rattle.rules.specs.Nets.{TurnWeb, TurnsMeant};
@@ -9,32 +9,12 @@ ghost use Rattle.ground.specs.Nets.{turn_net_web};
 
 use crate::cells::Cells;
 use crate::counts::Counts;
+use crate::numbers::{low, numbered};
 use crate::stage::{Open, Sealed};
 use crate::turn_net::TurnNet;
 use refusal::Refusal;
 
-// Refuses a vertex number above 4,095.
-fn low(v: u16) -> Result<(), Refusal>
-    ensures { MatchResult result (λ _. v ≤ 4095) (λ cause. (cause ≡ Refusal.VertexTooHigh) × (4095 < v)) }
-{
-    if v > 4095 {
-        return Err(Refusal::VertexTooHigh);
-    }
-    Ok(())
-}
-
 impl<'a> Sealed<'a> {
-    // The number of half-face h, if there is one.
-    fn half_face(&self, h: u16) -> Result<usize, Refusal>
-        ensures { MatchResult result (λ k. (k ≡ h) × (k < 4 * self.now.cells.count)) (λ cause. (cause ≡ Refusal.NoSuchNumber) × (4 * self.now.cells.count ≤ h)) }
-    {
-        let h = h as usize;
-        if h >= 4 * self.cells.count {
-            return Err(Refusal::NoSuchNumber);
-        }
-        Ok(h)
-    }
-
     /// The same ground, open for changes again.
     pub fn reopen(self) -> Open<'a>
         ensures { plain result ≡ plain_sealed self.entry }
@@ -67,7 +47,7 @@ impl<'a> Sealed<'a> {
     pub fn reading(&self, h: u16) -> Result<[u16; 3], Refusal>
         ensures { TellsReading (plain_sealed self.now).list h result }
     {
-        let h = self.half_face(h)?;
+        let h = numbered(h, 4 * self.cells.count)?;
         Ok(self.cells.joined().reading(h))
     }
 
@@ -77,7 +57,7 @@ impl<'a> Sealed<'a> {
         ensures only { OnlyOpposite (plain_sealed self.now).list h result }
         ensures no_three { NoThree (plain_sealed self.now).list }
     {
-        let h = self.half_face(h)?;
+        let h = numbered(h, 4 * self.cells.count)?;
         Ok(self.cells.joined().opposite(h))
     }
 

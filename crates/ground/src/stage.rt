@@ -1,4 +1,4 @@
-//! Open and sealed grounds: one list of places, and what holds of it.
+//! Open and sealed grounds: the same cells, for changes and for questions.
 ghost use Rattle.ground.specs.Listed.{Tallied};
 
 use crate::cells::Cells;

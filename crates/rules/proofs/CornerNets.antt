@@ -65,10 +65,6 @@ unfolding sent
 sent_other x i y j k e = cond-false (eqb k j) _ _ (ne_eqb k j e)
 
 -- only the first four vertices count
-pub sent_vertices : (x y : List ℕ) (i j k : ℕ) → k < 4 → sent (vertices x) i (vertices y) j k ≡ sent x i y j k
-unfolding sent corner_at
-sent_vertices x y i j = by_four (λ (k : ℕ). sent (vertices x) i (vertices y) j k ≡ sent x i y j k) refl refl refl refl
-
 pub label_vertices : (x y : List ℕ) (i j : ℕ) → label (sent (vertices x) i (vertices y) j) ≡ label (sent x i y j)
 unfolding sent corner_at
 label_vertices x y i j = refl

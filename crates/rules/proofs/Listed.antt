@@ -147,11 +147,6 @@ write_off f t n m old new next p w e s = record {
   rest = ap (λ (z : ℕ). drop z next) e ∙ ap (drop n) s ∙ w.rest ∙ ap (λ (z : ℕ). drop z old) (sym e);
 }
 
-pub write_done : (f : ℕ → Bool) (t m n : ℕ) (old new : List ℕ) → t ≡ m → Writing f t n old new → (take (length (picks f m)) new ≡ picks f m) × (drop (length (picks f m)) new ≡ drop (length (picks f m)) old)
-write_done f t m n old new e w =
-    let a : n ≡ length (picks f m) = w.count.0 ∙ ap (λ (k : ℕ). length (picks f k)) e in
-    (ap (λ (z : ℕ). take z new) (sym a) ∙ w.first ∙ ap (picks f) e, ap (λ (z : ℕ). drop z new) (sym a) ∙ w.rest ∙ ap (λ (z : ℕ). drop z old) a)
-
 -- what a list that was written holds
 pub filled_so : (P : ℕ → Type 0) (ks old new : List ℕ) (n : ℕ) → Listing P ks → n ≡ length ks → n ≤ length new → take (length ks) new ≡ ks → drop (length ks) new ≡ drop (length ks) old → Filled P n old new
 filled_so P ks old new n a e l f r = record {

@@ -78,9 +78,6 @@ at_to : (rs : List (List ℕ)) (v w t : ℕ) → AtEdge rs v w t → at_test rs 
 unfolding at_test
 at_to rs v w t a = and_from _ _ (lt-ltb t (length rs) a.0) (and_from _ _ (in_to (get_or rs t []) v a.1) (in_to (get_or rs t []) w a.2))
 
-at_cases : (rs : List (List ℕ)) (v w t : ℕ) → AtEdge rs v w t ⊎ (AtEdge rs v w t → ⊥)
-at_cases rs v w t = ⊎_elim (λ p. inl (at_so rs v w t p)) (λ p. inr (λ a. both_ways (at_test rs v w t) p (at_to rs v w t a))) (cases_Bool (at_test rs v w t))
-
 -- so many cells have v and w, counted from the first cell on
 pub star_counts : (rs : List (List ℕ)) (v w c : ℕ) → Many (AtEdge rs v w) c → Counts (AtEdge rs v w) (length rs) c
 star_counts rs v w c m =

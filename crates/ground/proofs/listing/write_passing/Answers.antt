@@ -1,10 +1,7 @@
-use Rattle.std.proofs.Common.{◌≡◌, true, false, length, sym, refl, arith}
-use Rattle.rules.proofs.Listed.{place_for, write_on, write_off, write_done}
+use Rattle.std.proofs.Common.{true, false, length, sym, arith}
+use Rattle.rules.proofs.Listed.{place_for, write_on, write_off}
 use Rattle.ground.proofs.listing.write_passing.Goals as goal
 use Rattle.ground.proofs.listing.write_passing.Goals.{then-passes, else-passes}
-
-pub loop-k-init : goal.loop-k-init
-loop-k-init g c = record { count = (refl, omega arith); first = refl; rest = refl }
 
 pub bounds-out-found : goal.bounds-out-found
 bounds-out-found g c =
@@ -24,9 +21,3 @@ loop-k-preserved g c =
           write_on g.f c.loop-k.k c.loop-k.found c.if-passes.found c.args.out.now c.loop-k.out c.if-passes.out p (omega arith) c.loop-k.invariant w.found-is w.out-is)
       | else-passes w ↦ write_off g.f c.loop-k.k c.loop-k.found c.if-passes.found c.args.out.now c.loop-k.out c.if-passes.out (sym (tests false w.if-passes.ensures)) c.loop-k.invariant w.found-is w.out-is
     ]
-
-pub returns : goal.returns
-returns g c =
-    let e : c.loop-k.k ≡ c.args.n = omega (arith, c.loop-k.auto.k-end, c.loop-k-test.false) in
-    let w = write_done g.f c.loop-k.k c.args.n c.loop-k.found c.args.out.now c.loop-k.out e c.loop-k.invariant in
-    record { first = w.0; rest = w.1 }

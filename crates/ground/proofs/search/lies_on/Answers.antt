@@ -1,21 +1,18 @@
-use Rattle.std.proofs.Common.{◌≡◌, ℕ, Bool, true, false, ◌&&◌, ◌||◌, eqb, List, length, get_or, refl, sym, ap, ◌∙◌, rules, tests}
+use Rattle.std.proofs.Common.{◌≡◌, ℕ, ◌||◌, eqb, List, length, sym, ap, ◌∙◌, rules, tests}
 use Rattle.std.specs.List.{list_all, enumerate_from}
 use Rattle.std.proofs.lemmas.Iterator.{YieldsList-from_slice}
 use Rattle.std.proofs.lemmas.Iterator.Consumers.{YieldsList-from_enumerate}
 use Rattle.std.proofs.lemmas.Iterator.Search.{all_from_yields_List}
+use Rattle.std.proofs.Math.Bool.{and-true}
 use Rattle.rules.specs.Tests.{on}
 use Rattle.ground.specs.Searches.{within}
 use Rattle.ground.proofs.Shared.{four_of}
 use Rattle.ground.proofs.search.lies_on.Goals as goal
 
-and_last : (p q r s : Bool) → (p && (q && (r && (s && true)))) ≡ (p && (q && (r && s)))
-and_last p q r true = refl
-and_last p q r false = refl
-
 all_four : (x : List ℕ) (i : ℕ) (y : List ℕ) (j : ℕ) → length x ≡ 4 → list_all (λ (p : ℕ × ℕ). eqb i p.0 || on y j p.1) (enumerate_from 0 x) ≡ within x i y j
 all_four x i y j e =
     ap (λ (z : List ℕ). list_all (λ (p : ℕ × ℕ). eqb i p.0 || on y j p.1) (enumerate_from 0 z)) (sym (four_of x 0 e))
-    ∙ and_last (eqb i 0 || on y j (get_or x 0 0)) (eqb i 1 || on y j (get_or x 1 0)) (eqb i 2 || on y j (get_or x 2 0)) (eqb i 3 || on y j (get_or x 3 0))
+    ∙ simp and-true
 
 pub returns : goal.returns
 returns c =

@@ -1,16 +1,9 @@
-use Rattle.std.proofs.Common.{◌≡◌, ◌+◌, List, length, ap, ◌∙◌, refl, arith, rules}
+use Rattle.std.proofs.Common.{◌≡◌, ◌+◌, List, length, ap, ◌∙◌, refl, rules}
 use Rattle.ground.specs.declared.cell.Cell.{Cell}
 use Rattle.ground.specs.Records.{rows, laid_cells}
-use Rattle.ground.proofs.Grounds.{facts, standing_so, few_so, near_met}
+use Rattle.ground.proofs.Grounds.{facts, standing_so, few_so}
 use Rattle.ground.proofs.Laid.{rows_laid, length_laid, laid_facts}
 use Rattle.ground.proofs.cells.Cells.append.Goals as goal
-
-pub lay_cell-requires : goal.lay_cell-requires
-lay_cell-requires c =
-    let g = c.args.self.now in
-    let room = c.requires.room in
-    let few = g.few in
-    (omega arith, (room, near_met g.records.now g.count c.args.corners c.args.joins g.standing.room c.requires.met))
 
 pub invariant_of-self : goal.invariant_of-self
 invariant_of-self c =
@@ -23,10 +16,7 @@ invariant_of-self c =
           (laid_facts g.records.now g.count x c.args.joins c.requires.room c.requires.fine four (facts g) c.requires.met);
     }
 
-pub returns : goal.returns
-returns c =
+pub returns-clause-list : goal.returns-clause-list
+returns-clause-list c =
     let g = c.args.self.now in
-    record {
-      list = ap (λ (z : List Cell). rows z (g.count + 1)) c.lay_cell.ensures ∙ rows_laid g.records.now g.count c.args.corners c.args.joins c.requires.room;
-      places = ap length c.lay_cell.ensures ∙ length_laid g.records.now g.count c.args.corners c.args.joins;
-    }
+    ap (λ (z : List Cell). rows z (g.count + 1)) c.lay_cell.ensures ∙ rows_laid g.records.now g.count c.args.corners c.args.joins c.requires.room

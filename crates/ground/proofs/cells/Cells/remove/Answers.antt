@@ -4,7 +4,7 @@ use Rattle.ground.specs.declared.cells.Cells.{Cells}
 use Rattle.ground.specs.Grounds.{rows_of}
 use Rattle.ground.specs.Records.{rows, lifted_cells}
 use Rattle.ground.proofs.Grounds.{facts, standing_so, few_so, many}
-use Rattle.ground.proofs.Removed.{near_t, near_p, lifted_facts, rows_lifted, length_lifted}
+use Rattle.ground.proofs.Removed.{near_t, linked_p, lifted_facts, rows_lifted, length_lifted}
 use Rattle.ground.proofs.Turned.{Facts}
 use Rattle.ground.proofs.cells.Cells.remove.Goals as goal
 
@@ -30,11 +30,13 @@ lift_cell-requires c =
     let t = c.args.t in
     let l = c.requires in
     let few = g.few in
-    let room = g.standing.room in (record {
-      t_le_last = (omega arith, (omega arith, omega arith));
-      all_near = near_t g.records.now (g.count - 1) t (omega arith) (facts_last g t l);
-      all_near_2 = near_p g.records.now (g.count - 1) t (omega arith) (facts_last g t l);
-    })
+    let room = g.standing.room in
+    let f = facts_last g t l in
+    record {
+      up_to_last = omega arith;
+      linked = record { low = omega arith; inside = omega arith; near = near_t g.records.now (g.count - 1) t (omega arith) f };
+      last_linked = linked_p g.records.now (g.count - 1) t (omega arith) f (omega arith);
+    }
 
 pub invariant_of-self : goal.invariant_of-self
 invariant_of-self c =

@@ -11,10 +11,8 @@ turn_cell-requires c =
     let g = c.args.self.now in
     let l = c.requires in
     let few = g.few in
-    let room = g.standing.room in (record {
-      t_bound = (omega arith, omega arith);
-      all_near = near_all g.records.now g.count c.args.t (facts g) l;
-    })
+    let room = g.standing.room in
+    record { low = omega arith; inside = omega arith; near = near_all g.records.now g.count c.args.t (facts g) l }
 
 pub invariant_of-self : goal.invariant_of-self
 invariant_of-self c =
@@ -24,11 +22,7 @@ invariant_of-self c =
       standing = standing_so (turned_cells g.records.now c.args.t) _ g.count _ c.turn_cell.ensures refl (turned_facts g.records.now g.count c.args.t c.requires (facts g));
     }
 
-pub returns : goal.returns
-returns c =
+pub returns-clause-list : goal.returns-clause-list
+returns-clause-list c =
     let g = c.args.self.now in
-    record {
-      list = ap (λ (z : List Cell). rows z g.count) c.turn_cell.ensures ∙ rows_turned g.records.now g.count c.args.t g.standing.room c.requires;
-      places = ap length c.turn_cell.ensures ∙ length_turned g.records.now c.args.t;
-      same = refl;
-    }
+    ap (λ (z : List Cell). rows z g.count) c.turn_cell.ensures ∙ rows_turned g.records.now g.count c.args.t g.standing.room c.requires

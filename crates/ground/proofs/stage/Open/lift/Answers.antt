@@ -1,17 +1,14 @@
-use Rattle.std.proofs.Common.{◌≡◌, Err, refl, arith}
-use Rattle.std.proofs.lemmas.Result.{err_from_is_err_and}
-use Rattle.refusal.specs.declared.Refusal.TheVariants.{NoSuchNumber}
+use Rattle.std.proofs.Common.{refl, arith}
 use Rattle.rules.proofs.Causes.{first_no_row, no_row_cause}
 use Rattle.ground.specs.Grounds.{plain}
 use Rattle.ground.proofs.Grounds.{many, same_plain}
+use Rattle.ground.proofs.Telling.{refused}
 use Rattle.ground.proofs.stage.Open.lift.Goals as goal
 
 pub returns-in_err-t-clause-lifts : goal.returns-in_err-t-clause-lifts
 returns-in_err-t-clause-lifts c =
     let g = c.args.self.now in
-    let p = err_from_is_err_and c.from_residual.result c.from_residual.ensures.1 in
-    let e : c.from_residual.result ≡ Err NoSuchNumber = cc (p.1, p.2, c.in_err-t.ensures.0) in
-    rw e (first_no_row (plain g) c.args.t (omega (arith, many g.cells, c.in_err-t.ensures.1)), refl)
+    rw (refused c.from_residual.result _ _ c.from_residual.ensures.1 c.in_err-t.ensures.0) (first_no_row (plain g) c.args.t (omega (arith, many g.cells, c.in_err-t.ensures.1)), refl)
 
 pub returns-clause-lifts : goal.returns-clause-lifts
 returns-clause-lifts c =

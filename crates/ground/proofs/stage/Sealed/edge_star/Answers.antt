@@ -1,6 +1,4 @@
-use Rattle.std.proofs.Common.{◌≡◌, ℕ, Err, List, length, refl, subst}
-use Rattle.std.proofs.lemmas.Result.{err_from_is_err_and}
-use Rattle.refusal.specs.declared.Refusal.TheVariants.{VertexTooHigh}
+use Rattle.std.proofs.Common.{ℕ, List, length, refl, subst}
 use Rattle.rules.specs.Questions.{AtEdge, EdgeStarCause, TellsEdgeStar}
 use Rattle.rules.specs.Tests.{picks}
 use Rattle.rules.proofs.Causes.{edge_first_high, edge_first_high_other, edge_first_equal, edge_first_short, no_edge_cause}
@@ -8,21 +6,17 @@ use Rattle.ground.specs.Grounds.{rows_of}
 use Rattle.ground.specs.Listed.{has_both}
 use Rattle.ground.specs.Nets.{joined_rows}
 use Rattle.ground.proofs.Asked.{edge_listed}
-use Rattle.ground.proofs.Telling.{told}
+use Rattle.ground.proofs.Telling.{told, refused}
 use Rattle.ground.proofs.Viewed.{seen}
 use Rattle.ground.proofs.stage.Sealed.edge_star.Goals as goal
 
 pub returns-in_err-low : goal.returns-in_err-low
 returns-in_err-low c =
-    let p = err_from_is_err_and c.from_residual.result c.from_residual.ensures.1 in
-    let e : c.from_residual.result ≡ Err VertexTooHigh = cc (p.1, p.2, c.in_err-low.ensures.0) in
-    rw e (edge_first_high (rows_of c.args.self.now.cells) c.args.v c.args.w (length c.args.out.now) c.in_err-low.ensures.1, refl)
+    rw (refused c.from_residual.result _ _ c.from_residual.ensures.1 c.in_err-low.ensures.0) (edge_first_high (rows_of c.args.self.now.cells) c.args.v c.args.w (length c.args.out.now) c.in_err-low.ensures.1, refl)
 
 pub returns-in_err-low-2 : goal.returns-in_err-low-2
 returns-in_err-low-2 c =
-    let p = err_from_is_err_and c.from_residual-in_err-low-2.result c.from_residual-in_err-low-2.ensures.1 in
-    let e : c.from_residual-in_err-low-2.result ≡ Err VertexTooHigh = cc (p.1, p.2, c.in_err-low-2.ensures.0) in
-    rw e (edge_first_high_other (rows_of c.args.self.now.cells) c.args.v c.args.w (length c.args.out.now) c.in_err-low-2.ensures.1, refl)
+    rw (refused c.from_residual-in_err-low-2.result _ _ c.from_residual-in_err-low-2.ensures.1 c.in_err-low-2.ensures.0) (edge_first_high_other (rows_of c.args.self.now.cells) c.args.v c.args.w (length c.args.out.now) c.in_err-low-2.ensures.1, refl)
 
 pub returns-then-v-w : goal.returns-then-v-w
 returns-then-v-w c = (edge_first_equal (rows_of c.args.self.now.cells) c.args.v c.args.w (length c.args.out.now) c.in_ok-low.ensures c.in_ok-low-2.ensures c.if-v-w.true, refl)

@@ -1,6 +1,4 @@
-use Rattle.std.proofs.Common.{◌≡◌, ◌*◌, ◌<◌, Err, List, ap, ◌∙◌, arith}
-use Rattle.std.proofs.lemmas.Result.{err_from_is_err_and}
-use Rattle.refusal.specs.declared.Refusal.TheVariants.{NoSuchNumber}
+use Rattle.std.proofs.Common.{◌*◌, ◌<◌, List, ap, ◌∙◌, arith}
 use Rattle.rules.specs.Joins.{OppositeIs}
 use Rattle.rules.proofs.Causes.{first_no_half, no_half_cause}
 use Rattle.ground.specs.declared.cell.Cell.{Cell}
@@ -9,14 +7,13 @@ use Rattle.ground.specs.Records.{join_at}
 use Rattle.ground.proofs.Asked.{opposite_so, only_so}
 use Rattle.ground.proofs.Grounds.{many}
 use Rattle.ground.proofs.Joining.{joined_one}
+use Rattle.ground.proofs.Telling.{refused}
 use Rattle.ground.proofs.stage.Sealed.opposite.Goals as goal
 
 pub returns-in_err-h : goal.returns-in_err-h
 returns-in_err-h c =
     let g = c.args.self.now.cells in
-    let p = err_from_is_err_and c.from_residual.result c.from_residual.ensures.1 in
-    let e : c.from_residual.result ≡ Err NoSuchNumber = cc (p.1, p.2, c.in_err-h.ensures.0) in
-    rw e (record {
+    rw (refused c.from_residual.result _ _ c.from_residual.ensures.1 c.in_err-h.ensures.0) (record {
       tells = first_no_half (rows_of g) c.args.h (omega (arith, many g, c.in_err-h.ensures.1));
       only = tt;
       no_three = joined_one g.records.now g.count g.standing.room g.standing.law;

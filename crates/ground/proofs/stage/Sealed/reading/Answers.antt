@@ -1,19 +1,16 @@
-use Rattle.std.proofs.Common.{◌≡◌, ℕ, Err, List, ap, ◌∙◌, arith}
-use Rattle.std.proofs.lemmas.Result.{err_from_is_err_and}
-use Rattle.refusal.specs.declared.Refusal.TheVariants.{NoSuchNumber}
+use Rattle.std.proofs.Common.{ℕ, List, ap, ◌∙◌, arith}
 use Rattle.rules.specs.NetTests.{read_at}
 use Rattle.rules.proofs.Causes.{first_no_half, no_half_cause}
 use Rattle.ground.specs.Grounds.{rows_of}
 use Rattle.ground.proofs.Grounds.{many}
 use Rattle.ground.proofs.Viewed.{seen}
+use Rattle.ground.proofs.Telling.{refused}
 use Rattle.ground.proofs.stage.Sealed.reading.Goals as goal
 
 pub returns-in_err-h : goal.returns-in_err-h
 returns-in_err-h c =
     let g = c.args.self.now.cells in
-    let p = err_from_is_err_and c.from_residual.result c.from_residual.ensures.1 in
-    let e : c.from_residual.result ≡ Err NoSuchNumber = cc (p.1, p.2, c.in_err-h.ensures.0) in
-    rw e (first_no_half (rows_of g) c.args.h (omega (arith, many g, c.in_err-h.ensures.1)))
+    rw (refused c.from_residual.result _ _ c.from_residual.ensures.1 c.in_err-h.ensures.0) (first_no_half (rows_of g) c.args.h (omega (arith, many g, c.in_err-h.ensures.1)))
 
 pub returns : goal.returns
 returns c =

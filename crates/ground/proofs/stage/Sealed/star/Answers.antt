@@ -1,6 +1,4 @@
-use Rattle.std.proofs.Common.{◌≡◌, ℕ, Err, List, length, refl, subst}
-use Rattle.std.proofs.lemmas.Result.{err_from_is_err_and}
-use Rattle.refusal.specs.declared.Refusal.TheVariants.{VertexTooHigh}
+use Rattle.std.proofs.Common.{ℕ, List, length, refl, subst}
 use Rattle.rules.specs.Questions.{AtVertex, StarCause, TellsStar}
 use Rattle.rules.specs.Tests.{picks}
 use Rattle.rules.proofs.Causes.{star_first_high, star_first_short, no_star_cause}
@@ -8,15 +6,13 @@ use Rattle.ground.specs.Grounds.{rows_of}
 use Rattle.ground.specs.Listed.{has_both}
 use Rattle.ground.specs.Nets.{joined_rows}
 use Rattle.ground.proofs.Asked.{star_listed}
-use Rattle.ground.proofs.Telling.{told}
+use Rattle.ground.proofs.Telling.{told, refused}
 use Rattle.ground.proofs.Viewed.{seen}
 use Rattle.ground.proofs.stage.Sealed.star.Goals as goal
 
 pub returns-in_err-low : goal.returns-in_err-low
 returns-in_err-low c =
-    let p = err_from_is_err_and c.from_residual.result c.from_residual.ensures.1 in
-    let e : c.from_residual.result ≡ Err VertexTooHigh = cc (p.1, p.2, c.in_err-low.ensures.0) in
-    rw e (star_first_high (rows_of c.args.self.now.cells) c.args.v (length c.args.out.now) c.in_err-low.ensures.1, refl)
+    rw (refused c.from_residual.result _ _ c.from_residual.ensures.1 c.in_err-low.ensures.0) (star_first_high (rows_of c.args.self.now.cells) c.args.v (length c.args.out.now) c.in_err-low.ensures.1, refl)
 
 pub returns : goal.returns
 returns c =
