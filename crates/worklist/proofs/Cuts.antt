@@ -1,11 +1,10 @@
 -- How a line is cut at its spaces. Assumes nothing.
-use Rattle.std.proofs.Common.{◌≡◌, ℕ, suc, ◌-◌, ◌^◌, ◌<◌, ◌≤◌, List, [], ◌∷◌, ◌++◌, length, get_or, take, drop, Some, None, decimal, sym, refl, ap, ◌∙◌, subst, suc-le-suc, add-zero, arith, length-drop, take-append-drop, length-take, take_all}
-use native.Mathlib.Nat.{sub-zero}
-use Rattle.std.proofs.lemmas.List.{get_or-take, get_or-drop, drop_more}
+use Rattle.std.proofs.Common.{◌≡◌, ℕ, suc, ◌-◌, ◌^◌, ◌<◌, ◌≤◌, List, [], ◌∷◌, ◌++◌, length, get_or, take, drop, None, decimal, sym, refl, ap, ◌∙◌, subst, suc-le-suc, arith, length-drop, take_all}
+use Rattle.std.proofs.lemmas.List.{drop_more}
 use Rattle.std.proofs.lemmas.Str.Parse.{digit_at}
 use Rattle.std.proofs.lemmas.Fmt.{decimal_is_IsNumeral}
 use Rattle.worklist.specs.Written.{spaced}
-use Rattle.worklist.specs.ReaderSteps.{FirstAt, Cut, Reads, Leads, NoneLeads, NoNumbers, Numbers}
+use Rattle.worklist.specs.ReaderSteps.{Cut, Reads, Leads, NoneLeads, NoNumbers, Numbers}
 
 append_cancel : (a b c : List ℕ) → a ++ b ≡ a ++ c → b ≡ c
 append_cancel [] b c e = e
@@ -17,29 +16,8 @@ no_space n small k h e =
     let d = digit_at (decimal n) k (decimal_is_IsNumeral n f).0.1 h in
     omega (arith, d.0)
 
--- a part up to i, and the rest, as the code cuts them
-pub front_is : (s : List ℕ) (i : ℕ) → take (i - 0) s ≡ take i s
-front_is s i = ap (λ (k : ℕ). take k s) (sub-zero i)
-
-pub rest_is : (s : List ℕ) (i : ℕ) → take (length s - i) (drop i s) ≡ drop i s
+rest_is : (s : List ℕ) (i : ℕ) → take (length s - i) (drop i s) ≡ drop i s
 rest_is s i = let h : length (drop i s) ≤ length s - i = simp length-drop (omega arith) in take_all (length s - i) (drop i s) h
-
-cut_at : (s : List ℕ) (i : ℕ) → FirstAt 32 s i → Cut s (take i s) (drop i s)
-cut_at s i f = record {
-  whole = sym (take-append-drop i s);
-  plain = λ k h e.
-      let l : length (take i s) ≤ i = simp length-take (omega arith) in
-      let h' : k < i = omega arith in
-      f.before k h' (sym (get_or-take i s k 0 h') ∙ e);
-  seam = λ h.
-      let l : length (drop i s) ≡ length s - i = simp length-drop refl in
-      let h' : i < length s = omega arith in
-      get_or-drop i s 0 0 ∙ ap (λ (k : ℕ). get_or s k 0) (add-zero i) ∙ f.here h';
-}
-
-pub cut_so : (s : List ℕ) (i : ℕ) → FirstAt 32 s i → Cut s (take (i - 0) s) (take (length s - i) (drop i s))
-cut_so s i f =
-    subst (λ (a : List ℕ). Cut s a (take (length s - i) (drop i s))) (sym (front_is s i)) (subst (λ (b : List ℕ). Cut s (take i s) b) (sym (rest_is s i)) (cut_at s i f))
 
 -- what a pattern [x, rest @ ..] says of the whole
 pub headed : (s : List ℕ) (x : ℕ) → 0 < length s → get_or s 0 0 ≡ x → s ≡ x ∷ take (length s - 1) (drop 1 s)
@@ -82,10 +60,6 @@ pub spaced_seam : (ns : List ℕ) → 0 < length (spaced ns) → get_or (spaced 
 spaced_seam [] h = absurd (omega arith)
 spaced_seam (n ∷ ns) h = refl
 
--- what a number at the front and the rest say together
-pub leads_from : (s rest a b : List ℕ) (n : ℕ) → s ≡ 32 ∷ rest → Cut rest a b → Reads a (Some n) → Leads s n b
-leads_from s rest a b n e c h = record { whole = e ∙ ap (λ (z : List ℕ). 32 ∷ z) (c.whole ∙ ap (λ (z : List ℕ). z ++ b) h.0); seam = c.seam; small = h.1 }
-
 cut_of : (s rest : List ℕ) (m : ℕ) (t : List ℕ) → s ≡ 32 ∷ rest → Leads s m t → Cut rest (decimal m) t
 cut_of s rest m t e l =
     let w : rest ≡ decimal m ++ t = let h : 32 ∷ rest ≡ 32 ∷ (decimal m ++ t) = sym e ∙ l.whole in cc in
@@ -114,7 +88,3 @@ later_none s n more k le none (m ∷ ms) sm l e =
 pub empty_is : (s : List ℕ) → length s ≡ 0 → s ≡ []
 empty_is [] h = refl
 empty_is (x ∷ xs) h = absurd (omega arith)
-
-pub ends_none : (s : List ℕ) → 0 < length s → NoNumbers 0 s
-ends_none s h [] sm l e = absurd (omega (arith, ap length e))
-ends_none s h (m ∷ ms) sm l e = absurd (omega arith)

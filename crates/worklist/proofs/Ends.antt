@@ -1,13 +1,11 @@
 -- How a text is cut at its bytes 10. Assumes nothing.
-use Rattle.std.proofs.Common.{◌≡◌, ℕ, suc, ◌+◌, ◌-◌, ◌^◌, ◌<◌, ◌≤◌, List, [], ◌∷◌, ◌++◌, length, get_or, take, drop, None, decimal, sym, refl, ap, ◌∙◌, subst, suc-le-suc, arith, take-append-drop, length-take}
-use Rattle.std.proofs.lemmas.List.{get_or-take, drop_more}
+use Rattle.std.proofs.Common.{◌≡◌, ℕ, suc, ◌^◌, ◌<◌, List, [], ◌∷◌, ◌++◌, None, decimal, sym, refl, ◌∙◌, subst, suc-le-suc, arith}
 use Rattle.std.proofs.lemmas.Str.Parse.{digit_at}
 use Rattle.std.proofs.lemmas.Fmt.{decimal_is_IsNumeral}
 use Rattle.worklist.specs.declared.order.Order.{Order}
 use Rattle.worklist.specs.Written.{Small, numbers_of, line_of, spaced}
 use Rattle.worklist.specs.Lists.{Begins, NoneBegins}
-use Rattle.worklist.specs.ReaderSteps.{FirstAt, Lacks, Ended, Says}
-use Rattle.worklist.proofs.Cuts.{front_is, rest_is}
+use Rattle.worklist.specs.ReaderSteps.{Lacks, Ended, Says}
 use Rattle.worklist.proofs.Letters.{known, same_order}
 
 -- no byte of the list is 10
@@ -59,22 +57,6 @@ same_back (x ∷ xs) r [] t p q e = let z : x ≡ 10 = cc in absurd (p.0 z)
 same_back (x ∷ xs) r (y ∷ ys) t p q e =
     let w : xs ++ (10 ∷ r) ≡ ys ++ (10 ∷ t) = cc in
     same_back xs r ys t p.1 q.1 w
-
-pub lacks_so : (s : List ℕ) (i : ℕ) → FirstAt 10 s i → i ≡ length s → Lacks 10 s
-lacks_so s i f e k l = f.before k (omega arith)
-
-pub ended_at : (s : List ℕ) (i : ℕ) → FirstAt 10 s i → (i ≡ length s → ⊥) → Ended s (take (i - 0) s) (take (length s - (i + 1)) (drop (i + 1) s))
-ended_at s i f ne =
-    let h : i < length s = omega (arith, f.within) in
-    record {
-      whole = sym (take-append-drop i s) ∙ ap (λ (t : List ℕ). take i s ++ t) (drop_more s i 0 h ∙ ap (λ (x : ℕ). x ∷ drop (i + 1) s) (f.here h))
-          ∙ ap (λ (a : List ℕ). a ++ (10 ∷ drop (i + 1) s)) (sym (front_is s i))
-          ∙ ap (λ (b : List ℕ). take (i - 0) s ++ (10 ∷ b)) (sym (rest_is s (i + 1)));
-      plain = λ k l q.
-          let w : length (take (i - 0) s) ≤ i = simp length-take (omega arith) in
-          let l' : k < i = omega arith in
-          f.before k l' (sym (get_or-take i s k 0 l') ∙ ap (λ (t : List ℕ). get_or t k 0) (sym (front_is s i)) ∙ q);
-    }
 
 pub none_begins : (s a rest : List ℕ) → Ended s a rest → Says a None → NoneBegins s
 none_begins s a rest e h o t b =

@@ -1,7 +1,8 @@
 -- Bytes written one after another, and how many there are. Assumes nothing.
-use Rattle.std.proofs.Common.{◌≡◌, ℕ, ◌+◌, ◌/◌, ◌%◌, ◌^◌, ◌<◌, ◌≤◌, List, [], ◌∷◌, ◌++◌, length, get_or, take, drop, set, decimal, sym, refl, ap, ◌∙◌, subst, append_assoc, append-nil, zero-add, arith, length-append, take-append-drop, drop-drop, drop-set-lt}
-use Rattle.std.proofs.lemmas.List.{take_more, take_more_set}
-use Rattle.std.proofs.lemmas.Fmt.{decimal_digit, decimal_step, length-decimal-le}
+use Rattle.std.proofs.Common.{◌≡◌, ℕ, ◌+◌, ◌-◌, ◌<◌, ◌≤◌, List, [], ◌∷◌, ◌++◌, length, get_or, take, drop, decimal, sym, refl, ap, ◌∙◌, subst, append_assoc, append-nil, zero-add, arith, length-append, take-append-drop, drop-drop}
+use borrow.Rule.Slice.PartMut.{put_mid}
+use Rattle.std.proofs.lemmas.List.{take_more}
+use Rattle.std.proofs.lemmas.Slice.{take-put_mid, drop-put_mid}
 use Rattle.refusal.specs.declared.Refusal.{Refusal}
 use Rattle.refusal.specs.declared.Refusal.TheVariants.{ListTooShort}
 use Rattle.refusal.specs.Numbers.{number_of}
@@ -11,8 +12,13 @@ use Rattle.worklist.specs.AnswerLines.{said, LineCause, Holds}
 use Rattle.worklist.specs.AnswerLines.LineCause.{short}
 use Rattle.worklist.specs.WriterSteps.{Put}
 
-pub put_one : (old : List ℕ) (at b : ℕ) → at < length old → Put old (set old at b) at (b ∷ []) (at + 1)
-put_one old at b h = record { end = refl; front = take_more_set old at b h; back = drop-set-lt (at + 1) old at b (omega arith) }
+-- bytes copied into a part
+pub put_part : (old bs part : List ℕ) (at n : ℕ) → part ≡ bs → n ≡ at + length bs → n ≤ length old → Put old (put_mid at (n - at) old part) at bs n
+put_part old bs part at n copied e h = record {
+  end = e;
+  front = take-put_mid at (n - at) old part n (omega (arith, e, ap length copied)) (omega (arith, e, h)) ∙ ap (λ (z : List ℕ). take at old ++ z) copied;
+  back = drop-put_mid at (n - at) old part n (omega (arith, e)) (omega (arith, e, h)) (omega (arith, e, ap length copied));
+}
 
 pub put_more : (old mid new : List ℕ) (at n m : ℕ) (bs cs : List ℕ) → Put old mid at bs n → Put mid new n cs m → Put old new at (bs ++ cs) m
 put_more old mid new at n m bs cs p q = record {
@@ -30,15 +36,6 @@ put_more old mid new at n m bs cs p q = record {
 pub put_as : (old new : List ℕ) (at n : ℕ) (bs cs : List ℕ) → bs ≡ cs → Put old new at bs n → Put old new at cs n
 put_as old new at n bs cs e p = subst (λ (z : List ℕ). Put old new at z n) e p
 
-pub width_one : (n : ℕ) → n < 10 → 1 ≡ length (decimal n)
-width_one n h = sym (ap length (decimal_digit n h))
-
-pub width_more : (n : ℕ) → 10 ≤ n → n < 2 ^ 64 → length (decimal (n / 10)) + 1 ≡ length (decimal n)
-width_more n h f = omega (arith, ap length (decimal_step n h f), length-append (decimal (n / 10)) ((48 + n % 10) ∷ []))
-
-pub width_most : (n : ℕ) → n < 65536 → length (decimal n) ≤ 5
-width_most n f = let p : n < 10 ^ 5 = omega arith in length-decimal-le 5 n (omega arith) p (omega arith)
-
 spaced_append : (ns ms : List ℕ) → spaced (ns ++ ms) ≡ spaced ns ++ spaced ms
 spaced_append [] ms = refl
 spaced_append (n ∷ ns) ms = ap (λ (z : List ℕ). 32 ∷ (decimal n ++ z)) (spaced_append ns ms) ∙ ap (λ (z : List ℕ). 32 ∷ z) (sym (append_assoc (decimal n) (spaced ns) (spaced ms)))
@@ -53,9 +50,6 @@ width_spaced ns i h = omega (arith, ap length (spaced_more ns i h), length-appen
 
 pub within : (ns : List ℕ) (i : ℕ) → length (spaced (take i ns)) ≤ length (spaced ns)
 within ns i = omega (arith, ap length (ap spaced (sym (take-append-drop i ns)) ∙ spaced_append (take i ns) (drop i ns)), length-append (spaced (take i ns)) (spaced (drop i ns)))
-
-pub digit_is : (n : ℕ) → n < 10 → (48 + n % 10) ∷ [] ≡ decimal n
-digit_is n h = let m : n % 10 ≡ n = omega arith in ap (λ (z : ℕ). (48 + z) ∷ []) m ∙ sym (decimal_digit n h)
 
 pub length_said : (word ns : List ℕ) → length (said word ns) ≡ length word + (length (spaced ns) + 1)
 length_said word ns = omega (arith, length-append word (spaced ns ++ (10 ∷ [])), length-append (spaced ns) (10 ∷ []))

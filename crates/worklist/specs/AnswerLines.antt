@@ -12,6 +12,12 @@ use Rattle.worklist.specs.Written.{spaced}
 abbrev pub said : List ℕ → List ℕ → List ℕ
 said word ns = word ++ (spaced ns ++ (10 ∷ []))
 
+-- what an answer says, without the byte 10 of its line
+abbrev pub shown : Answer → List ℕ
+shown (Ok ns) = codes "ok" ++ spaced ns.now
+shown (No c) = codes "no" ++ spaced (number_of c ∷ [])
+shown (Bad f) = codes "bad" ++ spaced (number_of f.refusal ∷ f.line ∷ [])
+
 abbrev pub bytes_of : Answer → List ℕ
 bytes_of (Ok ns) = said (codes "ok") ns.now
 bytes_of (No c) = said (codes "no") (number_of c ∷ [])

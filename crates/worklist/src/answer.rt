@@ -1,8 +1,10 @@
-ghost use Rattle.worklist.specs.AnswerLines.{said, bytes_of, Lined};
+ghost use Rattle.std.specs.Prelude.{Some};
+ghost use Rattle.worklist.specs.AnswerLines.{said, shown, bytes_of, Lined};
 
 use crate::fault::Fault;
-use crate::put::{fits, put_byte, put_numbers, put_word};
+use crate::put::{places_left, put, put_numbers};
 use refusal::Refusal;
+use std::fmt;
 
 /// What a line of output says.
 #[derive(Clone, Copy)]
@@ -15,16 +17,34 @@ pub enum Answer<'a> {
     Bad(Fault),
 }
 
-// A word, the numbers, each after one space, and byte 10.
+/// The answer's line, without its byte 10.
+impl fmt::Display for Answer<'_> {
+    ghost output = { λ a. Some (shown a) };
+
+    fn fmt<W: fmt::Write>(&self, f: &mut fmt::Formatter<W>) -> fmt::Result {
+        match self {
+            Answer::Ok(numbers) => {
+                write!(f, "ok")?;
+                for n in *numbers {
+                    write!(f, " {n}")?;
+                }
+                Ok(())
+            }
+            Answer::No(refusal) => write!(f, "no {}", refusal.number()),
+            Answer::Bad(fault) => write!(f, "bad {} {}", fault.refusal.number(), fault.line),
+        }
+    }
+}
+
+// A word, the numbers, each after one space, and byte 10. It is not written by `Display`, since no
+// `fmt` promises to succeed where there is room.
 fn put_line(word: &[u8], numbers: &[u16], out: &mut [u8]) -> Result<usize, Refusal>
     ensures { Lined (said word.now numbers.now) out.old out.new result }
 {
-    if !fits(word, numbers, out.len()) {
-        return Err(Refusal::ListTooShort);
-    }
-    let at = put_word(out, 0, word);
-    let end = put_numbers(out, at, numbers);
-    Ok(put_byte(out, end, b'\n'))
+    places_left(word, numbers, out.len()).ok_or(Refusal::ListTooShort)?;
+    let end = put(out, 0, word);
+    let end = put_numbers(out, end, numbers);
+    Ok(put(out, end, b"\n"))
 }
 
 impl Answer<'_> {

@@ -1,4 +1,4 @@
-ghost use Rattle.std.specs.Prelude.{[], ◌∷◌, MatchOption};
+ghost use Rattle.std.specs.Prelude.{◌≡◌, ◌∷◌, length, MatchOption};
 ghost use Rattle.worklist.specs.ReaderSteps.{Says, Leads, NoneLeads, NoNumbers, Numbers};
 
 use crate::cut::word;
@@ -9,97 +9,65 @@ use crate::order::Order;
 fn next(s: &[u8]) -> Option<(u16, &[u8])>
     ensures { MatchOption result (NoneLeads s.now) (λ p. Leads s.now p.0 p.1.now) }
 {
-    match s {
-        [b' ', rest @ ..] => {
-            let (first, more) = word(rest);
-            match number(first) {
-                Some(n) => Some((n, more)),
-                None => None,
-            }
-        }
-        _ => None,
-    }
+    let [b' ', rest @ ..] = s else {
+        return None;
+    };
+    let (first, more) = word(rest);
+    Some((number(first)?, more))
 }
 
-// One number after a space, and no more.
-fn one(s: &[u8]) -> Option<u16>
-    ensures { MatchOption result (NoNumbers 1 s.now) (λ n. Numbers s.now (n ∷ [])) }
+// So many numbers, each after a space, and no more.
+fn numbers<const N: usize>(s: &[u8]) -> Option<[u16; N]>
+    ensures { MatchOption result (NoNumbers N s.now) (λ ns. Numbers s.now ns × (length ns ≡ N)) }
 {
-    match next(s) {
-        Some((n, more)) => match more {
-            [] => Some(n),
-            _ => None,
-        },
-        None => None,
+    let mut found = [0; N];
+    let mut rest = s;
+    // By index: of a place written through `iter_mut` a proof knows nothing.
+    for i in 0..N {
+        let (n, more) = next(rest)?;
+        found[i] = n;
+        rest = more;
     }
-}
-
-// Two numbers, each after a space, and no more.
-fn two(s: &[u8]) -> Option<(u16, u16)>
-    ensures { MatchOption result (NoNumbers 2 s.now) (λ p. Numbers s.now (p.0 ∷ p.1 ∷ [])) }
-{
-    match next(s) {
-        Some((a, more)) => match one(more) {
-            Some(b) => Some((a, b)),
-            None => None,
-        },
-        None => None,
-    }
-}
-
-// Four numbers, each after a space, and no more.
-fn four(s: &[u8]) -> Option<(u16, u16, u16, u16)>
-    ensures { MatchOption result (NoNumbers 4 s.now) (λ p. Numbers s.now (p.0 ∷ p.1 ∷ p.2 ∷ p.3 ∷ [])) }
-{
-    match next(s) {
-        Some((a, rest)) => match next(rest) {
-            Some((b, more)) => match two(more) {
-                Some((c, d)) => Some((a, b, c, d)),
-                None => None,
-            },
-            None => None,
-        },
-        None => None,
-    }
+    rest.is_empty().then_some(found)
 }
 
 // The order of a letter and what follows it in the line.
-fn order(letter: char, rest: &[u8]) -> Option<Order>
+fn order(letter: u8, rest: &[u8]) -> Option<Order>
     ensures { Says (letter ∷ rest.now) result }
 {
     match letter {
-        'L' => match four(rest) {
-            Some((a, b, c, d)) => Some(Order::Lay(a, b, c, d)),
-            None => None,
-        },
-        'X' => match one(rest) {
-            Some(t) => Some(Order::Lift(t)),
-            None => None,
-        },
-        'T' => match one(rest) {
-            Some(t) => Some(Order::Turn(t)),
-            None => None,
-        },
-        'O' => match rest {
-            [] => Some(Order::Orient),
-            _ => None,
-        },
-        'K' => match one(rest) {
-            Some(v) => Some(Order::CellsAtVertex(v)),
-            None => None,
-        },
-        'E' => match two(rest) {
-            Some((v, w)) => Some(Order::CellsAtEdge(v, w)),
-            None => None,
-        },
-        'S' => match rest {
-            [] => Some(Order::Counts),
-            _ => None,
-        },
-        'Z' => match one(rest) {
-            Some(n) => Some(Order::Close(n)),
-            None => None,
-        },
+        b'L' => {
+            let [a, b, c, d] = numbers::<4>(rest)?;
+            Some(Order::Lay(a, b, c, d))
+        }
+        b'X' => {
+            let [t] = numbers::<1>(rest)?;
+            Some(Order::Lift(t))
+        }
+        b'T' => {
+            let [t] = numbers::<1>(rest)?;
+            Some(Order::Turn(t))
+        }
+        b'O' => {
+            let [] = numbers::<0>(rest)?;
+            Some(Order::Orient)
+        }
+        b'K' => {
+            let [v] = numbers::<1>(rest)?;
+            Some(Order::CellsAtVertex(v))
+        }
+        b'E' => {
+            let [v, w] = numbers::<2>(rest)?;
+            Some(Order::CellsAtEdge(v, w))
+        }
+        b'S' => {
+            let [] = numbers::<0>(rest)?;
+            Some(Order::Counts)
+        }
+        b'Z' => {
+            let [n] = numbers::<1>(rest)?;
+            Some(Order::Close(n))
+        }
         _ => None,
     }
 }
@@ -108,8 +76,6 @@ fn order(letter: char, rest: &[u8]) -> Option<Order>
 pub(crate) fn read_line(s: &[u8]) -> Option<Order>
     ensures { Says s.now result }
 {
-    match s {
-        [letter, rest @ ..] => order(char::from(*letter), rest),
-        [] => None,
-    }
+    let (letter, rest) = s.split_first()?;
+    order(*letter, rest)
 }

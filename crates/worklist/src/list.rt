@@ -15,44 +15,23 @@ const MOST_BYTES: usize = 65536;
 fn next_order(text: &[u8]) -> Option<(Order, &[u8])>
     ensures { MatchOption result (NoneBegins text.now) (λ p. Begins text.now p.0 p.1.now) }
 {
-    match cut_line(text) {
-        Some((line, rest)) => match read_line(line) {
-            Some(order) => Some((order, rest)),
-            None => None,
-        },
-        None => None,
-    }
+    let (line, rest) = cut_line(text)?;
+    Some((read_line(line)?, rest))
 }
 
-// What a line is to a list that is read line by line.
-enum Line<'a> {
-    // an order to run, and what follows the line
-    ToRun(&'a [u8]),
-    // the end of the list, as it should be
-    Closes,
-    // wrong
-    Faulty(Refusal),
-}
-
-// What the line at the front of `rest` is, with `before` lines before it.
-fn judge(rest: &[u8], before: u16) -> Line<'_>
+// What follows the line at the front of `rest`, with `before` lines before it: an order to run.
+// Nothing, where that line closes the list as it should.
+fn judge(rest: &[u8], before: u16) -> Result<Option<&[u8]>, Refusal>
     ensures { Judged before rest.now result }
 {
     if rest.is_empty() {
-        return Line::Faulty(Refusal::WronglyClosed);
+        return Err(Refusal::WronglyClosed);
     }
-    match next_order(rest) {
-        Some((order, more)) => match order {
-            Order::Close(n) => {
-                if n == before && more.is_empty() {
-                    Line::Closes
-                } else {
-                    Line::Faulty(Refusal::WronglyClosed)
-                }
-            }
-            _ => Line::ToRun(more),
-        },
-        None => Line::Faulty(Refusal::LineMalformed),
+    let (order, more) = next_order(rest).ok_or(Refusal::LineMalformed)?;
+    match order {
+        Order::Close(n) if n == before && more.is_empty() => Ok(None),
+        Order::Close(_) => Err(Refusal::WronglyClosed),
+        _ => Ok(Some(more)),
     }
 }
 
@@ -70,18 +49,13 @@ pub fn check_list(text: &[u8]) -> Result<u16, Fault>
     let mut before = 0;
     let mut rest = text;
     loop {
-        match judge(rest, before) {
-            Line::ToRun(more) => {
-                before += 1;
+        let line = before + 1;
+        match judge(rest, before).map_err(|refusal| Fault { refusal, line })? {
+            Some(more) => {
+                before = line;
                 rest = more;
             }
-            Line::Closes => return Ok(before),
-            Line::Faulty(refusal) => {
-                return Err(Fault {
-                    refusal,
-                    line: before + 1,
-                });
-            }
+            None => return Ok(before),
         }
     }
 }
@@ -92,11 +66,9 @@ pub fn next_to_run(rest: &[u8]) -> Option<(Order, &[u8])>
     ensures inturn { (os : List Order) → ToRun rest.now os → MatchOption result (os ≡ []) (λ p. (more : List Order) × (os ≡ p.0 ∷ more) × ToRun p.1.now more) }
     ensures shorter { IfSome result (λ p. length p.1.now < length rest.now) }
 {
-    match next_order(rest) {
-        Some((order, more)) => match order {
-            Order::Close(_) => None,
-            _ => Some((order, more)),
-        },
-        None => None,
+    let (order, more) = next_order(rest)?;
+    match order {
+        Order::Close(_) => None,
+        _ => Some((order, more)),
     }
 }

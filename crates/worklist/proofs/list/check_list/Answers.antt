@@ -1,7 +1,8 @@
-use Rattle.std.proofs.Common.{ℕ, ◌+◌, [], ◌∷◌, ◌++◌, sym, refl, ap, ◌∙◌, arith, length-append}
+use Rattle.std.proofs.Common.{◌≡◌, ℕ, ◌+◌, [], ◌∷◌, ◌++◌, Some, Ok, Err, sym, refl, ap, ◌∙◌, subst, arith, length-append, rules}
+use Rattle.worklist.specs.Lists.{TurnedDown}
 use Rattle.worklist.specs.Lists.TurnedDown.{long}
 use Rattle.worklist.proofs.Once.{once}
-use Rattle.worklist.proofs.Wholes.{turned_down, closed_at, reaches_more, begins_shorter}
+use Rattle.worklist.proofs.Wholes.{turned_down, reaches_more, begins_shorter}
 use Rattle.worklist.proofs.list.check_list.Goals as goal
 
 pub returns-then-text-gt-MOST_BYTES : goal.returns-then-text-gt-MOST_BYTES
@@ -12,38 +13,35 @@ loop-more-init c = (omega arith, ([], record { whole = refl; running = tt }, ref
 
 pub loop-more-smaller : goal.loop-more-smaller
 loop-more-smaller c =
-    let next = c.in-ToRun.ensures in
-    omega (arith, begins_shorter c.loop-more.rest.now next.0 c.in-ToRun.more.now next.1.0)
+    let is : c.judge.result ≡ Ok (Some c.in-Some.more) = search rules in
+    let next = rw is at c.judge.ensures in
+    omega (arith, begins_shorter c.loop-more.rest.now next.0 c.in-Some.more.now next.1.0)
 
 pub loop-more-preserved : goal.loop-more-preserved
 loop-more-preserved c =
     let inv = c.loop-more.invariant.1 in
-    let next = c.in-ToRun.ensures in (
-      omega (arith, c.loop-more.invariant.0, begins_shorter c.loop-more.rest.now next.0 c.in-ToRun.more.now next.1.0),
+    let is : c.judge.result ≡ Ok (Some c.in-Some.more) = search rules in
+    let next = rw is at c.judge.ensures in (
+      omega (arith, c.loop-more.invariant.0, begins_shorter c.loop-more.rest.now next.0 c.in-Some.more.now next.1.0),
       (
         inv.0 ++ (next.0 ∷ []),
-        reaches_more c.args.text.now inv.0 c.loop-more.rest.now next.0 c.in-ToRun.more.now inv.1 next.1.0 next.1.1,
+        reaches_more c.args.text.now inv.0 c.loop-more.rest.now next.0 c.in-Some.more.now inv.1 next.1.0 next.1.1,
         ap (λ (z : ℕ). z + 1) inv.2 ∙ sym (length-append inv.0 (next.0 ∷ [])),
       ),
     )
 
-pub returns-in-Closes : goal.returns-in-Closes
-returns-in-Closes c =
-    let inv = c.loop-more.invariant.1 in
-    record {
-      told = (
-        inv.0,
-        closed_at c.args.text.now inv.0 c.loop-more.rest.now c.loop-more.before (omega arith) inv.1 c.in-Closes.ensures inv.2,
-        inv.2,
-      );
-      once = once c.args.text.now;
-    }
+pub returns-in-None-clause-once : goal.returns-in-None-clause-once
+returns-in-None-clause-once c = once c.args.text.now
 
-pub returns-in-Faulty : goal.returns-in-Faulty
-returns-in-Faulty c =
+pub returns-in_err-more-clause-told : goal.returns-in_err-more-clause-told
+returns-in_err-more-clause-told c =
     let inv = c.loop-more.invariant.1 in
-    record {
-      told = turned_down c.args.text.now c.in-Faulty.refusal inv.0 c.loop-more.rest.now c.loop-more.before
-          (omega arith) inv.1 inv.2 c.in-Faulty.ensures;
-      once = once c.args.text.now;
-    }
+    let f = c.in_err-more.field-0.0 in
+    let is : c.from_residual.result ≡ Err f = search rules in
+    let was : (c.judge.result ≡ Err f.refusal) × (f.line ≡ c.loop-more.before + 1) = search rules in
+    rw is
+    (subst (TurnedDown c.args.text.now f.refusal) (sym was.1)
+    (turned_down c.args.text.now f.refusal inv.0 c.loop-more.rest.now c.loop-more.before (omega arith) inv.1 inv.2 (rw was.0 at c.judge.ensures)))
+
+pub returns-in_err-more-clause-once : goal.returns-in_err-more-clause-once
+returns-in_err-more-clause-once c = once c.args.text.now
