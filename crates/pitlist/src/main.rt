@@ -1,12 +1,12 @@
 //! pitlist: reads a work list from standard input and prints a line of answer for each order.
 #![tactic(auto)]
 
-use anyhow::anyhow;
+use anyhow::Context;
 use ground::{Cell, make};
 use refusal::Refusal;
 use runlist::obey;
 use std::io::{Read, Write};
-use worklist::{Answer, Fault, check_list, next_to_run};
+use worklist::{Answer, check_list, next_to_run};
 
 // One byte more than a work list may have, so that a longer one is seen to be too long.
 const MOST_READ: u64 = 65537;
@@ -23,25 +23,12 @@ fn print_line(
     line: &[u8],
     written: Result<usize, Refusal>,
 ) -> anyhow::Result<()> {
-    match written {
-        Ok(n) if n <= line.len() => {
-            let mut out = rt.stdout();
-            out.write_all(&line[0..n])?;
-            Ok(())
-        }
-        _ => Err(anyhow!("an answer does not fit its line")),
-    }
-}
-
-// Prints what is wrong with a list that is turned down.
-fn print_fault(rt: &HostRuntime, fault: Fault) -> anyhow::Result<()> {
-    let mut line = [0; LINE];
-    let written = turned_down(fault).write(&mut line);
-    print_line(rt, &line, written)
-}
-
-fn turned_down<'a>(fault: Fault) -> Answer<'a> {
-    Answer::Bad(fault)
+    let said = written
+        .ok()
+        .and_then(|n| line.get(..n))
+        .context("an answer does not fit its line")?;
+    rt.stdout().write_all(said)?;
+    Ok(())
 }
 
 // Carries out the orders of a checked list, from a ground without cells.
@@ -51,8 +38,8 @@ fn run_orders(rt: &HostRuntime, text: &[u8]) -> anyhow::Result<()> {
     let mut ground = make(&mut places);
     let mut rest = text;
     while let Some((order, more)) = next_to_run(rest) {
-        let mut written = Ok(0);
-        ground = obey(ground, order, &mut line, &mut written);
+        let (after, written) = obey(ground, order, &mut line);
+        ground = after;
         print_line(rt, &line, written)?;
         rest = more;
     }
@@ -65,7 +52,10 @@ fn run(rt: &HostRuntime) -> anyhow::Result<()> {
     input.read_to_end(&mut text)?;
     match check_list(&text) {
         Ok(_) => run_orders(rt, &text),
-        Err(fault) => print_fault(rt, fault),
+        Err(fault) => {
+            println!(rt; "{}", Answer::Bad(fault))?;
+            Ok(())
+        }
     }
 }
 
