@@ -5,11 +5,7 @@ use runlist::obey;
 use std::alloc::Global;
 use std::process::Abort;
 use std::test::Fail;
-use worklist::{Answer, Fault, check_list, next_to_run};
-
-fn turned_down<'a>(fault: Fault) -> Answer<'a> {
-    Answer::Bad(fault)
-}
+use worklist::{Answer, check_list, next_to_run};
 
 // Appends the first bytes of the line.
 fn take_line(out: &mut Vec<u8>, line: &[u8], written: Result<usize, Refusal>) -> Result<(), Fail> {
@@ -32,8 +28,8 @@ fn answers(heap: Global, text: &[u8], room: usize) -> Result<Vec<u8>, Fail> {
     let mut ground = make(&mut places);
     let mut rest = text;
     while let Some((order, more)) = next_to_run(rest) {
-        let mut written = Ok(0);
-        ground = obey(ground, order, &mut line, &mut written);
+        let (after, written) = obey(ground, order, &mut line);
+        ground = after;
         take_line(&mut out, &line, written)?;
         rest = more;
     }
@@ -47,7 +43,7 @@ fn printed(heap: Global, text: &[u8], room: usize) -> Result<Vec<u8>, Fail> {
         Err(fault) => {
             let mut line = vec![in heap; 0; 64]?;
             let mut out = Vec::new(heap);
-            let written = turned_down(fault).write(&mut line);
+            let written = Answer::Bad(fault).write(&mut line);
             take_line(&mut out, &line, written)?;
             Ok(out)
         }
