@@ -17,7 +17,7 @@ const PLACES: usize = 1024;
 // Room for the longest line: "ok" and the numbers of 1,024 cells, each after a space.
 const LINE: usize = 8192;
 
-// Prints the first bytes of the line.
+// Prints the first bytes of the line, which `obey` is handed and fills.
 fn print_line(
     rt: &HostRuntime,
     line: &[u8],

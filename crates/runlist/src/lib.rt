@@ -13,7 +13,7 @@ use refusal::Refusal;
 use std::convert::AsSlice;
 use worklist::{Answer, Order};
 
-// The line of an order that is accepted, with the numbers that it is answered, or refused.
+// The line of an order that is accepted, with the numbers that answer it, or refused.
 fn say<A: AsSlice<u16> + Drop>(
     answered: Result<A, Refusal>,
     line: &mut [u8],
@@ -76,7 +76,8 @@ fn cells_at_vertex(ground: &Sealed, v: u16, line: &mut [u8]) -> Result<usize, Re
     say(ground.star(v, &mut cells).map(|n| &cells[..n]), line)
 }
 
-// Tells the cells at an edge.
+// Tells the cells at an edge. One function for this and the last would take the question as a closure
+// and its causes as well, and be no shorter.
 fn cells_at_edge(ground: &Sealed, v: u16, w: u16, line: &mut [u8]) -> Result<usize, Refusal>
     ensures { Said (CellsAtEdge v w) (plain_sealed ground.now) (plain_sealed ground.now) line.old line.new result }
 {

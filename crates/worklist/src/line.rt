@@ -72,7 +72,8 @@ fn order(letter: u8, rest: &[u8]) -> Option<Order>
     }
 }
 
-// The order that a line writes, if it writes one.
+// The order that a line writes, if it writes one. No `TryFrom`, which would be one more public call
+// and need an error that says nothing.
 pub(crate) fn read_line(s: &[u8]) -> Option<Order>
     ensures { Says s.now result }
 {

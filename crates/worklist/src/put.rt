@@ -18,7 +18,8 @@ pub(crate) fn places_left(word: &[u8], numbers: &[u16], places: usize) -> Option
     left.checked_sub(1)
 }
 
-// Bytes, from a place on; says the place after them.
+// Bytes, from a place on; says the place after them. The line is the caller's, so it has a place
+// beside it where a `String` would grow.
 pub(crate) fn put(out: &mut [u8], at: usize, bytes: &[u8]) -> usize
     requires { at + length bytes.now ≤ length out.old }
     ensures { Put out.old out.new at bytes.now result }

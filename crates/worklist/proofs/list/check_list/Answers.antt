@@ -1,21 +1,12 @@
-use Rattle.std.proofs.Common.{◌≡◌, ℕ, ◌+◌, [], ◌∷◌, ◌++◌, Some, Ok, Err, sym, refl, ap, ◌∙◌, subst, arith, length-append, rules}
+use Rattle.std.proofs.Common.{◌≡◌, ◌+◌, [], ◌∷◌, ◌++◌, Some, Ok, Err, sym, subst, arith, length-append, rules}
 use Rattle.worklist.specs.Lists.{TurnedDown}
 use Rattle.worklist.specs.Lists.TurnedDown.{long}
 use Rattle.worklist.proofs.Once.{once}
 use Rattle.worklist.proofs.Wholes.{turned_down, reaches_more, begins_shorter}
 use Rattle.worklist.proofs.list.check_list.Goals as goal
 
-pub returns-then-text-gt-MOST_BYTES : goal.returns-then-text-gt-MOST_BYTES
-returns-then-text-gt-MOST_BYTES c = record { told = long (omega (arith, c.if-text-gt-MOST_BYTES.true)); once = once c.args.text.now }
-
-pub loop-more-init : goal.loop-more-init
-loop-more-init c = (omega arith, ([], record { whole = refl; running = tt }, refl))
-
-pub loop-more-smaller : goal.loop-more-smaller
-loop-more-smaller c =
-    let is : c.judge.result ≡ Ok (Some c.in-Some.more) = search rules in
-    let next = rw is at c.judge.ensures in
-    omega (arith, begins_shorter c.loop-more.rest.now next.0 c.in-Some.more.now next.1.0)
+pub returns-then-text-gt-MOST_BYTES-clause-told : goal.returns-then-text-gt-MOST_BYTES-clause-told
+returns-then-text-gt-MOST_BYTES-clause-told c = long (omega (arith, c.if-text-gt-MOST_BYTES.true))
 
 pub loop-more-preserved : goal.loop-more-preserved
 loop-more-preserved c =
@@ -26,7 +17,7 @@ loop-more-preserved c =
       (
         inv.0 ++ (next.0 ∷ []),
         reaches_more c.args.text.now inv.0 c.loop-more.rest.now next.0 c.in-Some.more.now inv.1 next.1.0 next.1.1,
-        ap (λ (z : ℕ). z + 1) inv.2 ∙ sym (length-append inv.0 (next.0 ∷ [])),
+        omega (arith, inv.2, length-append inv.0 (next.0 ∷ [])),
       ),
     )
 
