@@ -50,13 +50,11 @@ pub fn check_list(text: &[u8]) -> Result<u16, Fault>
     let mut rest = text;
     loop {
         let line = before + 1;
-        match judge(rest, before).map_err(|refusal| Fault { refusal, line })? {
-            Some(more) => {
-                before = line;
-                rest = more;
-            }
-            None => return Ok(before),
-        }
+        let Some(more) = judge(rest, before).map_err(|refusal| Fault { refusal, line })? else {
+            return Ok(before);
+        };
+        before = line;
+        rest = more;
     }
 }
 

@@ -21,8 +21,8 @@ loop-more-preserved c =
       ),
     )
 
-pub returns-in-None-clause-once : goal.returns-in-None-clause-once
-returns-in-None-clause-once c = once c.args.text.now
+pub returns-in_default-clause-once : goal.returns-in_default-clause-once
+returns-in_default-clause-once c = once c.args.text.now
 
 pub returns-in_err-more-clause-told : goal.returns-in_err-more-clause-told
 returns-in_err-more-clause-told c =
