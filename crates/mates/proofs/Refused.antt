@@ -5,8 +5,12 @@ use Rattle.refusal.specs.declared.Refusal.TheVariants.{EdgePlaceTooHigh, NoSuchN
 use Rattle.refusal.specs.Numbers.{number_of}
 use Rattle.refusal.specs.Causes.{First, NoCause}
 use Rattle.rules.specs.Joins.{Joined, OnSkin}
+use Rattle.rules.specs.Questions.{HalfCause}
+use Rattle.rules.specs.Questions.HalfCause.{absent as no-half}
 use Rattle.rules.specs.Mates.{MateCause}
 use Rattle.rules.specs.Mates.MateCause.{no_place, absent, joined}
+use Rattle.halves.specs.Edges.{PlaceCause}
+use Rattle.halves.specs.Edges.PlaceCause.{high}
 
 module _ (rs : List (List ℕ)) (h e : ℕ) where
   -- no cause with a number below m applies
@@ -28,3 +32,16 @@ module _ (rs : List (List ℕ)) (h e : ℕ) where
   no_mate_cause q o _ (no_place k) = omega arith
   no_mate_cause q o _ (absent k) = let n = o.0 in omega arith
   no_mate_cause q o _ (joined k) = o.1 _ k
+
+  -- what refuses the edge place, or else the half-face, refuses the mate
+  pub place_first : (c : Refusal) → First (PlaceCause e) c → First (MateCause rs h e) c
+  place_first c f = by c f.applies
+    where
+      by : (d : Refusal) → PlaceCause e d → First (MateCause rs h e) d
+      by _ (high k) = first_place k
+
+  pub half_first : e ≤ 2 → (c : Refusal) → First (HalfCause rs h) c → First (MateCause rs h e) c
+  half_first q c f = by c f.applies
+    where
+      by : (d : Refusal) → HalfCause rs h d → First (MateCause rs h e) d
+      by _ (no-half k) = first_absent q k

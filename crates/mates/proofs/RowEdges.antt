@@ -97,13 +97,13 @@ module _ (x : List ℕ) (d : Distinct x) where
         (cases_eq k i)
 
     -- of the four corners one is free
-    pub across_last : (Free x i u v 0 → ⊥) → (Free x i u v 1 → ⊥) → (Free x i u v 2 → ⊥) → Across x i u v 3
-    across_last f0 f1 f2 =
+    pub free_last : (Free x i u v 0 → ⊥) → (Free x i u v 1 → ⊥) → (Free x i u v 2 → ⊥) → Free x i u v 3
+    free_last f0 f1 f2 =
         let a = on_at x u i l s.0 in
         let b = on_at x v i l s.1 in
         let w = last i a.0 b.0 a.2 b.2 (λ e. s.2 (a.3 ∙ ap (corner x) e ∙ sym b.3))
         (taken_at 0 (omega arith) f0) (taken_at 1 (omega arith) f1) (taken_at 2 (omega arith) f2) in
-        across_free 3 (omega arith) (free_at 3 (omega arith) w.0 w.1 w.2)
+        free_at 3 (omega arith) w.0 w.1 w.2
       where
         last : (i a b : ℕ) → (a ≡ i → ⊥) → (b ≡ i → ⊥) → (a ≡ b → ⊥) → (0 ≡ i) ⊎ ((0 ≡ a) ⊎ (0 ≡ b)) → (1 ≡ i) ⊎ ((1 ≡ a) ⊎ (1 ≡ b)) → (2 ≡ i) ⊎ ((2 ≡ a) ⊎ (2 ≡ b)) → (3 ≡ i → ⊥) × (3 ≡ a → ⊥) × (3 ≡ b → ⊥)
         last i a b p q r x y z = (λ e. omega arith, λ e. omega arith, λ e. omega arith)
@@ -113,4 +113,4 @@ module _ (x : List ℕ) (d : Distinct x) where
         by_test (Across x i u v) (decides_free x i u v 0) (across_free 0 (omega arith))
         (λ n0. by_test (Across x i u v) (decides_free x i u v 1) (across_free 1 (omega arith))
         (λ n1. by_test (Across x i u v) (decides_free x i u v 2) (across_free 2 (omega arith))
-        (λ n2. across_last n0 n1 n2)))
+        (λ n2. across_free 3 (omega arith) (free_last n0 n1 n2))))

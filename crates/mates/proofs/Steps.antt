@@ -2,7 +2,7 @@
 use Rattle.std.proofs.Common.{◌≡◌, ℕ, zero, suc, ◌+◌, ◌*◌, ◌/◌, ◌%◌, ◌<◌, ◌≤◌, min, List, [], length, get_or, sym, refl, ap, ◌∙◌, subst, ⊎_elim, arith}
 use native.Mathlib.Nat.{min-eq_left, min-le_right}
 use Rattle.std.proofs.lemmas.Bool.{cases_eq}
-use Rattle.rules.specs.Rows.{vertices, Repeated}
+use Rattle.rules.specs.Rows.{vertices}
 use Rattle.rules.specs.Readings.{Reading, face, reads}
 use Rattle.rules.specs.Joins.{Half, Joined, OnSkin, LawfulRows}
 use Rattle.rules.specs.Mates.{EdgeAt, Beside}
@@ -10,7 +10,6 @@ use Rattle.rules.proofs.Corners.{by_four}
 use Rattle.rules.proofs.CornerNets.{Distinct, distinct}
 use Rattle.rules.proofs.Crowding.{crowded}
 use Rattle.rules.proofs.Opposites.{joined_sym}
-use Rattle.rules.proofs.Told.{vertices_corner}
 use Rattle.mates.specs.Edges.{Apart, Spans, Across}
 use Rattle.mates.proofs.EdgePlaces.{edge_on, on_edge}
 use Rattle.mates.proofs.RowEdges.{face_apart, no_third, across_of, across_of_lem}
@@ -23,14 +22,6 @@ face_vertices x = by_four (λ (i : ℕ). face (vertices x) i ≡ face x i) refl 
 
 pub across_vertices : (x : List ℕ) (i u v j : ℕ) → Across (vertices x) i u v j → Across x i u v j
 across_vertices x i u v j a = record { low = a.low; other = a.other; spans = subst (λ (z : Reading). Spans z u v) (face_vertices x j a.low) a.spans }
-
-pub spans_vertices : (x : List ℕ) (i u v : ℕ) → i < 4 → Spans (face x i) u v → Spans (face (vertices x) i) u v
-spans_vertices x i u v l = subst (λ (z : Reading). Spans z u v) (sym (face_vertices x i l))
-
-pub vertices_differ : (x : List ℕ) → (Repeated x → ⊥) → Repeated (vertices x) → ⊥
-vertices_differ x d r =
-    let (i, j, p, q, e) = r in
-    d (i, j, p, q, sym (vertices_corner x i (omega arith)) ∙ e ∙ vertices_corner x j q)
 
 module _ (rs : List (List ℕ)) (u v : ℕ) where
   -- the edge goes along

@@ -41,9 +41,6 @@ module _ (rs : List (List ℕ)) (u v s : ℕ) where
   pub turning_more : (g o n : ℕ) → Turning rs u v s g → Joined rs g o → Beside rs u v o n → Turning rs u v s n
   turning_more g o n t j b = record { steps = suc t.steps; at = o; walked = walked_more t.steps t.at g o t.walked t.beside j; beside = b }
 
-  pub turning_half : (g : ℕ) → Turning rs u v s g → Half rs g
-  turning_half g t = half_beside rs u v t.at g t.walked.half t.beside
-
   -- what the walk arrives at is the mate of where it began
   mate_from : (m k h : ℕ) → Reach rs u v s k h → Mate rs u v h m → Mate rs u v s m
   mate_from m zero h p q = subst (λ (z : ℕ). Mate rs u v z m) p q

@@ -1,11 +1,10 @@
 -- The edge that a walk goes round, in a reading and in a row.
-use Rattle.std.specs.Prelude.{◌≡◌, ℕ, ◌<◌, List, ◌≢◌, slice_index}
+use Rattle.std.specs.Prelude.{◌≡◌, ℕ, ◌<◌, List, ◌≢◌}
 use Rattle.rules.specs.Rows.{corner}
-use Rattle.rules.specs.Readings.{Reading, face, On}
-
--- a list of three vertices as a reading
-abbrev pub as_reading : List ℕ → Reading
-as_reading l = record { p = slice_index l 0; q = slice_index l 1; r = slice_index l 2 }
+use Rattle.rules.specs.Readings.{Reading, reads, face, On}
+use Rattle.halves.specs.declared.edge.Edge.{Edge}
+use Rattle.halves.specs.declared.half_face.HalfFace.{HalfFace}
+use Rattle.halves.specs.HalfFaces.{rows_of}
 
 -- three different vertices
 abbrev pub Apart : Reading → Type 0
@@ -14,6 +13,10 @@ Apart a = (a.p ≢ a.q) × (a.q ≢ a.r) × (a.p ≢ a.r)
 -- u and v are two vertices of a reading
 abbrev pub Spans : Reading → ℕ → ℕ → Type 0
 Spans a u v = On u a × On v a × (u ≢ v)
+
+-- the edge is one of the half-face
+abbrev pub Has : HalfFace → Edge → Type 0
+Has f e = Spans (reads (rows_of f) f.number) e.from e.to
 
 -- corner k of the row x is neither corner i nor at u or v
 abbrev pub Free : List ℕ → ℕ → ℕ → ℕ → ℕ → Type 0

@@ -1,61 +1,41 @@
-//! The edges of one reading, and of one row.
-ghost use Rattle.std.specs.Prelude.{◌<◌, Decides};
+//! An edge in one reading, and in one row.
+ghost use Rattle.std.specs.Prelude.{◌<◌};
 ghost use Rattle.rules.specs.Rows.{Repeated};
-ghost use Rattle.rules.specs.Readings.{face};
-ghost use Rattle.rules.specs.Mates.{Runs, EdgeAt};
-ghost use Rattle.mates.specs.Edges.{as_reading, Apart, Spans, Free, Across};
+ghost use Rattle.rules.specs.Readings.{reads, face};
+ghost use Rattle.rules.specs.Mates.{EdgeAt};
+ghost use Rattle.halves.specs.HalfFaces.{rows_of};
+ghost use Rattle.mates.specs.Edges.{Spans, Has, Across};
 
-// The two vertices of an edge place, in its direction.
-pub(crate) fn ends(reading: [u16; 3], place: u16) -> (u16, u16)
-    requires { place < 3 }
-    ensures { Runs (as_reading reading) place result.0 result.1 }
-{
-    let [p, q, r] = reading;
-    match place {
-        0 => (p, q),
-        1 => (q, r),
-        _ => (r, p),
-    }
-}
+use halves::{Edge, EdgePlace, HalfFace};
 
-// The edge place of u and v, two vertices of the reading.
-pub(crate) fn place_of(reading: [u16; 3], u: u16, v: u16) -> u16
-    requires apart { Apart (as_reading reading) }
-    requires spans { Spans (as_reading reading) u v }
-    ensures { EdgeAt (as_reading reading) result u v }
+// The place that the edge has in a half-face.
+pub(crate) fn place_of(there: HalfFace, edge: Edge) -> EdgePlace
+    requires { Has there edge }
+    ensures { EdgeAt (reads (rows_of there.entry) there.entry.number) result.number edge.from edge.to }
 {
-    let [p, _, r] = reading;
-    if r != u && r != v {
+    let [p, _, r] = there.reading();
+    let number = if !edge.has(r) {
         0
-    } else if p != u && p != v {
+    } else if !edge.has(p) {
         1
     } else {
         2
-    }
+    };
+    EdgePlace { number }
 }
 
-// Whether corner k of the row is neither corner i nor at u or v.
-fn is_free(row: [u16; 4], i: u16, u: u16, v: u16, k: u16) -> bool
-    requires { k < 4 }
-    ensures { Decides result (Free row i u v k) }
-{
-    k != i && row[k as usize] != u && row[k as usize] != v
-}
-
-// The half-face of the row, other than i, that has u and v: it lacks the corner that is free.
-pub(crate) fn across(row: [u16; 4], i: u16, u: u16, v: u16) -> u16
+// The half-face of the row, other than i, that has the edge: it lacks the corner that is neither
+// corner i nor on the edge.
+pub(crate) fn across(row: [u16; 4], i: usize, edge: Edge) -> usize
     requires differ { Repeated row → ⊥ }
     requires low { i < 4 }
-    requires spans { Spans (face row i) u v }
-    ensures { Across row i u v result }
+    requires spans { Spans (face row i) edge.from edge.to }
+    ensures { Across row i edge.from edge.to result }
 {
-    if is_free(row, i, u, v, 0) {
-        0
-    } else if is_free(row, i, u, v, 1) {
-        1
-    } else if is_free(row, i, u, v, 2) {
-        2
-    } else {
-        3
+    for (k, v) in row.iter().enumerate() {
+        if k != i && !edge.has(*v) {
+            return k;
+        }
     }
+    unreachable()
 }

@@ -2,7 +2,6 @@
 #![tactic(auto)]
 
 mod edge;
-mod halves;
 mod mating;
 mod side;
 mod walk;

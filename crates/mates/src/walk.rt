@@ -1,38 +1,37 @@
 //! The walk round an edge.
-ghost use Rattle.std.specs.Prelude.{◌≤◌, length};
-ghost use Rattle.rules.specs.Readings.{reads};
-ghost use Rattle.rules.specs.Joins.{Half, OnSkin, LawfulRows};
+ghost use Rattle.std.specs.Prelude.{◌≡◌};
+ghost use Rattle.rules.specs.Joins.{OnSkin};
 ghost use Rattle.rules.specs.Mates.{Beside, Mate};
-ghost use Rattle.ground.specs.Grounds.{plain_sealed};
-ghost use Rattle.mates.specs.Edges.{Spans};
+ghost use Rattle.halves.specs.HalfFaces.{rows_of};
+ghost use Rattle.mates.specs.Edges.{Has};
 
 use crate::edge::across;
-use crate::halves::{corners, opposite};
-use ground::Sealed;
+use halves::{Edge, HalfFace};
 
-// The other half-face of the cell of h that has the edge of u and v.
-fn beside(ground: &Sealed, h: u16, u: u16, v: u16) -> u16
-    requires few { length (plain_sealed ground.now).list ≤ 1024 }
-    requires lawful { LawfulRows (plain_sealed ground.now).list }
-    requires half { Half (plain_sealed ground.now).list h }
-    requires spans { Spans (reads (plain_sealed ground.now).list h) u v }
-    ensures { Beside (plain_sealed ground.now).list u v h result }
+// The other half-face of the cell of `here` that has the edge.
+fn beside<'g, 'a>(here: HalfFace<'g, 'a>, edge: Edge) -> HalfFace<'g, 'a>
+    requires { Has here edge }
+    ensures ground { result.ground ≡ here.entry.ground }
+    ensures beside { Beside (rows_of here.entry) edge.from edge.to here.entry.number result.number }
 {
-    4 * (h / 4) + across(corners(ground, h), h % 4, u, v)
+    let i = across(here.corners(), here.number as usize % 4, edge);
+    HalfFace {
+        ground: here.ground,
+        number: 4 * (here.number / 4) + i as u16,
+    }
 }
 
-// The mate of the open half-face h at the edge of u and v. Each step can be gone back in one way only
-// and none leads to h, so the walk comes to no half-face twice, and ends.
-pub(crate) fn walk(ground: &Sealed, h: u16, u: u16, v: u16) -> u16
-    requires few { length (plain_sealed ground.now).list ≤ 1024 }
-    requires lawful { LawfulRows (plain_sealed ground.now).list }
-    requires skin { OnSkin (plain_sealed ground.now).list h }
-    requires spans { Spans (reads (plain_sealed ground.now).list h) u v }
-    ensures { Mate (plain_sealed ground.now).list u v h result }
+// The mate of an open half-face at the edge. Each step can be gone back in one way only and none
+// leads to where the walk began, so it comes to no half-face twice, and ends.
+pub(crate) fn walk<'g, 'a>(here: HalfFace<'g, 'a>, edge: Edge) -> HalfFace<'g, 'a>
+    requires skin { OnSkin (rows_of here) here.number }
+    requires has { Has here edge }
+    ensures ground { result.ground ≡ here.entry.ground }
+    ensures mate { Mate (rows_of here.entry) edge.from edge.to here.entry.number result.number }
 {
-    let mut g = beside(ground, h, u, v);
-    while let Some(o) = opposite(ground, g) {
-        g = beside(ground, o, u, v);
+    let mut there = beside(here, edge);
+    while let Some(opposite) = there.opposite() {
+        there = beside(opposite, edge);
     }
-    g
+    there
 }

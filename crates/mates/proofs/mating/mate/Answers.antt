@@ -1,40 +1,67 @@
-use Rattle.std.proofs.Common.{arith}
+use Rattle.std.proofs.Common.{◌≡◌, ℕ, List, subst, arith}
+use Rattle.std.proofs.lemmas.Result.{err_from_is_err_and}
+use denote.Ref.{Bor}
+use Rattle.ground.specs.declared.stage.Sealed.{Sealed}
 use Rattle.ground.specs.Grounds.{plain_sealed}
-use Rattle.mates.proofs.Refused.{first_place, first_absent, first_joined, no_mate_cause}
+use Rattle.rules.specs.Joins.{Joined, OnSkin}
+use Rattle.rules.specs.Mates.{Mated}
+use Rattle.halves.specs.declared.edge.EdgePlace.{EdgePlace}
+use Rattle.halves.specs.declared.half_face.HalfFace.{HalfFace}
+use Rattle.halves.specs.HalfFaces.{rows_of}
+use Rattle.mates.proofs.Refused.{place_first, half_first, first_joined, no_mate_cause}
 use Rattle.mates.proofs.Returning.{leads_back}
 use Rattle.mates.proofs.Opposed.{mates_opposed}
 use Rattle.mates.proofs.mating.mate.Goals as goal
 
-pub returns-then-place-gt2 : goal.returns-then-place-gt2
-returns-then-place-gt2 c =
-    let rs = (plain_sealed c.args.ground.now).list in
-    record { tells = first_place rs c.args.h c.args.place c.if-place-gt2.true; back = tt; opposed = mates_opposed rs c.counts-cells.ensures.lawful }
+-- what is said of the half-face and the edge place, said of their numbers
+asked : (sealed : Bor Sealed) (h e : ℕ) (here : HalfFace) (place : EdgePlace) → here.ground ≡ sealed → here.number ≡ h → place.number ≡ e
+    → (P : List (List ℕ) → ℕ → ℕ → Type 0) → P (rows_of here) here.number place.number → P (plain_sealed sealed.now).list h e
+asked sealed h e here place g n p P x =
+    subst (P (plain_sealed sealed.now).list h) p
+    (subst (λ (k : ℕ). P (plain_sealed sealed.now).list k place.number) n
+    (subst (λ (s : Bor Sealed). P (plain_sealed s.now).list here.number place.number) g x))
 
-pub returns-then-h-cells : goal.returns-then-h-cells
-returns-then-h-cells c =
-    let rs = (plain_sealed c.args.ground.now).list in
-    let k = c.counts-cells.ensures in
-    let z = k.counted.cells in
-    let l = c.if-h-cells.true in
-    record { tells = first_absent rs c.args.h c.args.place c.if-place-gt2.false (omega arith); back = tt; opposed = mates_opposed rs k.lawful }
+pub returns-in_err-place-clause-tells : goal.returns-in_err-place-clause-tells
+returns-in_err-place-clause-tells c =
+    let p = err_from_is_err_and c.from_residual.result c.from_residual.ensures.1 in
+    rw (p.1, p.2) (place_first (plain_sealed c.args.ground.now).list c.args.h c.args.place _ c.in_err-place.ensures)
+
+pub returns-in_err-place-clause-opposed : goal.returns-in_err-place-clause-opposed
+returns-in_err-place-clause-opposed c = mates_opposed (plain_sealed c.args.ground.now).list c.counts.ensures.lawful
+
+pub returns-in_err-here-clause-tells : goal.returns-in_err-here-clause-tells
+returns-in_err-here-clause-tells c =
+    let p = err_from_is_err_and c.from_residual-in_err-here.result c.from_residual-in_err-here.ensures.1 in
+    let low = c.in_ok-place.place.low in
+    let same = c.in_ok-place.ensures.1 in
+    rw (p.1, p.2) (half_first (plain_sealed c.args.ground.now).list c.args.h c.args.place (omega arith) _ c.in_err-here.ensures)
+
+pub returns-in_err-here-clause-opposed : goal.returns-in_err-here-clause-opposed
+returns-in_err-here-clause-opposed c = mates_opposed (plain_sealed c.args.ground.now).list c.counts.ensures.lawful
 
 pub returns-in-Some : goal.returns-in-Some
 returns-in-Some c =
     let rs = (plain_sealed c.args.ground.now).list in
-    record {
-      tells = first_joined rs c.args.h c.args.place c.in-Some.field-0 c.if-place-gt2.false c.in-Some.ensures;
-      back = tt;
-      opposed = mates_opposed rs c.counts-cells.ensures.lawful;
-    }
+    let low = c.in_ok-place.place.low in
+    let same = c.in_ok-place.ensures.1 in
+    let here = c.in_ok-here.ensures.1 in
+    let o = c.in-Some.field-0 in
+    let joined = asked c.args.ground c.args.h c.args.place c.in_ok-here.here c.in_ok-place.place here.0 here.1 same (λ rs h _. Joined rs h o.number) c.in-Some.ensures.1 in
+    record { tells = first_joined rs c.args.h c.args.place o.number (omega arith) joined; back = tt; opposed = mates_opposed rs c.counts.ensures.lawful }
 
 pub returns-in-None : goal.returns-in-None
 returns-in-None c =
     let rs = (plain_sealed c.args.ground.now).list in
-    let law = c.counts-cells.ensures.lawful in
-    let o = c.in-None.ensures in
+    let law = c.counts.ensures.lawful in
+    let low = c.in_ok-place.place.low in
+    let same = c.in_ok-place.ensures.1 in
+    let here = c.in_ok-here.ensures.1 in
     let m = c.mate_at.result in
+    let at = asked c.args.ground c.args.h c.args.place c.in_ok-here.here c.in_ok-place.place here.0 here.1 same in
+    let skin = at (λ rs h _. OnSkin rs h) c.in-None.ensures in
+    let mated = at (λ rs h e. Mated rs h e m.half_face m.place) c.mate_at.ensures in
     record {
-      tells = (no_mate_cause rs c.args.h c.args.place c.if-place-gt2.false o, c.mate_at.ensures);
-      back = leads_back rs law c.args.h c.args.place m.half_face m.place o c.mate_at.ensures;
+      tells = (no_mate_cause rs c.args.h c.args.place (omega arith) skin, mated);
+      back = leads_back rs law c.args.h c.args.place m.half_face m.place skin mated;
       opposed = mates_opposed rs law;
     }
