@@ -1,5 +1,4 @@
 pub mod Rising
 pub mod Sided
 pub mod Paired
-pub mod Turning
 pub mod SkinWebs

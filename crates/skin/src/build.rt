@@ -10,7 +10,7 @@ use crate::side::Side;
 use crate::table::SkinNet;
 use carry::Turn;
 use ground::Sealed;
-use mates::mate;
+use mates::{EdgeSide, mate};
 
 // Writes the skin triangles into `list`, in rising order, and answers how many there are.
 fn skin_triangles(ground: &Sealed, list: &mut [u16]) -> usize
@@ -20,10 +20,10 @@ fn skin_triangles(ground: &Sealed, list: &mut [u16]) -> usize
 {
     // With its counts a ground tells that its cells are few, so that the list is long enough.
     let _ = ground.counts();
-    match ground.skin(list) {
-        Ok(count) => count,
-        Err(_) => unreachable(),
-    }
+    let Ok(count) = ground.skin(list) else {
+        unreachable()
+    };
+    count
 }
 
 // The item of each skin triangle, at its half-face number.
@@ -47,14 +47,16 @@ fn side(ground: &Sealed, triangles: &[u16], items: &[u16], k: usize) -> Side
     requires near { k < 3 * length triangles.now }
     ensures { Leads (plain_sealed ground.now).list triangles.now k result }
 {
-    let h = triangles[k / 3];
-    let e = (k % 3) as u16;
-    match mate(ground, h, e) {
-        Ok(found) => Side {
-            mate: 3 * items[found.half_face as usize] + found.place,
-            turn: turn_between(ground, h, e, found.half_face, found.place),
-        },
-        Err(_) => unreachable(),
+    let here = EdgeSide {
+        half_face: triangles[k / 3],
+        place: (k % 3) as u16,
+    };
+    let Ok(there) = mate(ground, here.half_face, here.place) else {
+        unreachable()
+    };
+    Side {
+        mate: 3 * items[there.half_face as usize] + there.place,
+        turn: turn_between(ground, here, there),
     }
 }
 

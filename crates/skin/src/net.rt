@@ -2,7 +2,7 @@
 ghost use Rattle.skin.specs.SkinTables.{skin_net_web};
 
 use crate::table::SkinNet;
-use carry::{Label, Net, Place, Turn};
+use carry::{Net, Place, Turn};
 
 impl Net for SkinNet {
     type Label = Turn;
@@ -20,10 +20,7 @@ impl Net for SkinNet {
     }
 
     fn join(&self, item: usize, side: usize) -> Option<Place> {
-        if item >= self.count || side >= 3 {
-            return None;
-        }
-        let mate = self.sides[3 * item + side].mate as usize;
+        let mate = self.at(item, side)?.mate as usize;
         Some(Place {
             item: mate / 3,
             side: mate % 3,
@@ -31,9 +28,9 @@ impl Net for SkinNet {
     }
 
     fn step(&self, item: usize, side: usize) -> Turn {
-        if item >= self.count || side >= 3 {
-            return Turn::Straight;
+        match self.at(item, side) {
+            Some(side) => side.turn,
+            None => Turn::Straight,
         }
-        self.sides[3 * item + side].turn
     }
 }

@@ -3,32 +3,32 @@ use Rattle.ground.specs.Grounds.{plain_sealed}
 use Rattle.skin.proofs.Paired.{mated_low, mate_told, side_low, leads_so}
 use Rattle.skin.proofs.build.side.Goals as goal
 
-pub bounds-items-found : goal.bounds-items-found
-bounds-items-found c =
+pub bounds-items-there : goal.bounds-items-there
+bounds-items-there c =
     let half = (mated_low c.in-Ok.ensures.tells.1).0.0 in let few = c.requires.skin.few in let long = c.requires.items.long in
     omega arith
 
 pub overflow_mul-result : goal.overflow_mul-result
 overflow_mul-result c =
     let at = mated_low c.in-Ok.ensures.tells.1 in
-    let low = side_low c.requires.skin c.requires.items c.in-Ok.found.half_face c.in-Ok.found.place at.0 at.1 in
+    let low = side_low c.requires.skin c.requires.items c.in-Ok.there.half_face c.in-Ok.there.place at.0 at.1 in
     omega arith
 
 pub overflow_add-result : goal.overflow_add-result
 overflow_add-result c =
     let at = mated_low c.in-Ok.ensures.tells.1 in
-    let low = side_low c.requires.skin c.requires.items c.in-Ok.found.half_face c.in-Ok.found.place at.0 at.1 in
+    let low = side_low c.requires.skin c.requires.items c.in-Ok.there.half_face c.in-Ok.there.place at.0 at.1 in
     omega arith
 
 pub turn_between-requires : goal.turn_between-requires
 turn_between-requires c =
     let at = mated_low c.in-Ok.ensures.tells.1 in let near = c.requires.near in
-    ((c.requires.skin.listing.sound (c.args.k / 3) (omega arith)).0, (omega arith, (at.0.0, at.1)))
+    record { half = (c.requires.skin.listing.sound (c.args.k / 3) (omega arith)).0; place = omega arith; other_half = at.0.0; other_place = at.1 }
 
 pub returns : goal.returns
-returns c = leads_so c.requires.skin c.requires.items c.args.k c.in-Ok.found c.turn_between.result c.in-Ok.ensures.tells.1 c.in-Ok.ensures.back c.turn_between.ensures
+returns c = leads_so c.requires.skin c.requires.items c.args.k c.in-Ok.there c.turn_between.result c.in-Ok.ensures.tells.1 c.in-Ok.ensures.back c.turn_between.ensures
 
 pub unreachable-requires : goal.unreachable-requires
 unreachable-requires c =
     let ks = c.args.triangles.now in let k = c.args.k in let near = c.requires.near in
-    mate_told (plain_sealed c.args.ground.now).list (get_or ks (k / 3) 0) (k % 3) _ (c.requires.skin.listing.sound (k / 3) (omega arith)) (omega arith) c.in-Err.ensures.tells
+    mate_told (plain_sealed c.args.ground.now).list (get_or ks (k / 3) 0) (k % 3) _ (c.requires.skin.listing.sound (k / 3) (omega arith)) (omega arith) c.in_default.ensures.tells

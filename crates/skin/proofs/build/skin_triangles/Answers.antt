@@ -6,10 +6,13 @@ use Rattle.skin.proofs.build.skin_triangles.Goals as goal
 pub returns : goal.returns
 returns c =
     let filled = c.in-Ok.ensures.1 in
-    let few = c.counts.ensures.few in let cells = c.counts.ensures.counted.cells in
+    let few = c.counts.ensures.few in
+    let cells = c.counts.ensures.counted.cells in
     record { fits = filled.fits; skin = record { few = omega arith; listing = filled.first } }
 
 pub unreachable-requires : goal.unreachable-requires
 unreachable-requires c =
-    let few = c.counts.ensures.few in let cells = c.counts.ensures.counted.cells in let long = c.requires in
-    skin_fits (plain_sealed c.args.ground.now).list (length c.args.list.now) _ (omega arith) c.in-Err.ensures.0.applies
+    let few = c.counts.ensures.few in
+    let cells = c.counts.ensures.counted.cells in
+    let long = c.requires in
+    skin_fits (plain_sealed c.args.ground.now).list (length c.args.list.now) _ (omega arith) c.in_default.ensures.0.applies

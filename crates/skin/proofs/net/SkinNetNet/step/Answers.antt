@@ -1,11 +1,16 @@
-use Rattle.std.proofs.Common.{sym, inl, inr, ⊎_elim}
+use Rattle.std.proofs.Common.{sym, ap, ◌∙◌}
+use Rattle.carry.specs.Turns.{turn_meaning}
+use Rattle.skin.specs.declared.side.Side.{Side}
 use Rattle.skin.proofs.Sided.{step_in, step_out}
 use Rattle.skin.proofs.net.SkinNetNet.step.Goals as goal
 
-pub returns-then-item-self : goal.returns-then-item-self
-returns-then-item-self c =
+pub returns-in-Some : goal.returns-in-Some
+returns-in-Some c =
     let t = c.args.self.now in
-    sym (step_out t.count t.sides c.args.item c.args.side (⊎_elim inl (λ r. inr r.1) c.then-item-self.either))
+    let at = c.in-Some.ensures in
+    ap (λ (x : Side). turn_meaning x.turn) at.2 ∙ sym (step_in t.count t.sides c.args.item c.args.side at.0 at.1)
 
-pub returns : goal.returns
-returns c = let t = c.args.self.now in sym (step_in t.count t.sides c.args.item c.args.side c.if-item-self.false c.if-side-ge3.false)
+pub returns-in-None : goal.returns-in-None
+returns-in-None c =
+    let t = c.args.self.now in
+    sym (step_out t.count t.sides c.args.item c.args.side c.in-None.ensures)
