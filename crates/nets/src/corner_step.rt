@@ -1,24 +1,29 @@
 //! How the corners of two joined cells lie.
-ghost use Rattle.std.specs.Prelude.{◌≡◌, ℕ, ◌<◌, true};
-ghost use Rattle.carry.specs.Digits.{different};
+ghost use Rattle.std.specs.Prelude.{◌≡◌, ◌<◌, All, IsNone, ◌==◌, ◌≢◌, position};
 ghost use Rattle.carry.specs.Corners.{corner_meaning};
-ghost use Rattle.rules.specs.NetTests.{corner_at, sent, label};
+ghost use Rattle.rules.specs.Joins.{Joined};
+ghost use Rattle.rules.specs.NetTests.{corner_at, sent, crossing};
 ghost use Rattle.rules.specs.Pits.{Rings};
+ghost use Rattle.halves.specs.HalfFaces.{rows_of};
 
-use carry::{Corner, Label};
+use carry::Corner;
+use halves::HalfFace;
 
-// The corner at the vertex v.
+// The first corner at the vertex v, if there is one.
+fn first_corner(row: [u16; 4], v: u16) -> Option<usize>
+    ensures first { result ≡ position (λ u. u == v) row }
+    ensures none { IsNone result → All (λ u. u ≢ v) row }
+{
+    row.iter().position(|u| *u == v)
+}
+
+// The corner at the vertex v, or the last.
 fn corner_at(row: [u16; 4], v: u16) -> u8
     ensures { result ≡ corner_at row v }
 {
-    if row[0] == v {
-        0
-    } else if row[1] == v {
-        1
-    } else if row[2] == v {
-        2
-    } else {
-        3
+    match first_corner(row, v) {
+        Some(corner) => corner as u8,
+        None => 3,
     }
 }
 
@@ -34,30 +39,24 @@ fn sent_to(here: [u16; 4], side: usize, there: [u16; 4], entered: usize, k: usiz
     }
 }
 
-// How the corners of `there` lie where its corner `entered` is joined to corner `side` of `here`.
-pub(crate) fn corners_between(
-    here: [u16; 4],
-    side: usize,
-    there: [u16; 4],
-    entered: usize,
-) -> Corner
-    requires side { side < 4 }
-    requires lawful { different (sent here side there entered 0) (sent here side there entered 1) (sent here side there entered 2) (sent here side there entered 3) ≡ true }
-    ensures { corner_meaning result ≡ label (sent here side there entered) }
+// How the corners of the cell of `there` lie where it is joined to `here`.
+pub(crate) fn corners_between(here: HalfFace, there: HalfFace) -> Corner
+    requires joined { Joined (rows_of here) here.number there.number }
+    requires same { rows_of there ≡ rows_of here }
+    ensures { corner_meaning result ≡ crossing (rows_of here.entry) here.entry.number there.entry.number }
 {
-    let a = sent_to(here, side, there, entered, 0);
-    let b = sent_to(here, side, there, entered, 1);
-    let c = sent_to(here, side, there, entered, 2);
-    let d = sent_to(here, side, there, entered, 3);
-    match Corner::new(a, b, c, d) {
-        Some(step) => step,
-        None => <Corner as Label>::neutral(),
-    }
+    let x = here.corners();
+    let y = there.corners();
+    let i = here.number as usize % 4;
+    let j = there.number as usize % 4;
+    let sent = |k| sent_to(x, i, y, j, k);
+    let Some(step) = Corner::new(sent(0), sent(1), sent(2), sent(3)) else {
+        unreachable()
+    };
+    step
 }
 
 /// The corner labels of rings of three and four cells.
-pub fn rings_stand() -> u8
+pub fn rings_stand()
     ensures { Rings }
-{
-    0
-}
+{}

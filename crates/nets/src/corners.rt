@@ -3,12 +3,12 @@ ghost use Rattle.std.specs.Prelude.{◌≡◌};
 ghost use Rattle.rules.specs.Nets.{CornerWeb};
 ghost use Rattle.rules.specs.NetTests.{corner_web};
 ghost use Rattle.ground.specs.Grounds.{plain_sealed};
-ghost use Rattle.nets.specs.CornerNets.{corner_net_web};
+ghost use Rattle.nets.specs.CornerNets.{corner_net_web, Crosses};
 
 use crate::corner_step::corners_between;
-use crate::joins::{corners, partner, place};
 use carry::{Corner, Label, Net, Place};
 use ground::Sealed;
+use halves::HalfFace;
 
 /// The net over which a ground's corner labels are carried.
 #[derive(Clone, Copy)]
@@ -27,6 +27,17 @@ pub fn corner_net<'g, 'a>(ground: &'g Sealed<'a>) -> CornerNet<'g, 'a>
     CornerNet { ground }
 }
 
+impl CornerNet<'_, '_> {
+    // The step over the join, if there is one.
+    fn crossing(&self, item: usize, side: usize) -> Option<Corner>
+        ensures { Crosses (corner_net_web self.now) item side result }
+    {
+        let here = HalfFace::at(self.ground, item, side)?;
+        let there = here.opposite()?;
+        Some(corners_between(here, there))
+    }
+}
+
 impl Net for CornerNet<'_, '_> {
     type Label = Corner;
 
@@ -43,16 +54,12 @@ impl Net for CornerNet<'_, '_> {
     }
 
     fn join(&self, item: usize, side: usize) -> Option<Place> {
-        place(self.ground, item, side)
+        self.ground.turn_net().join(item, side)
     }
 
     fn step(&self, item: usize, side: usize) -> Corner {
-        match partner(self.ground, item, side) {
-            Some(g) => {
-                let here = corners(self.ground, item);
-                let there = corners(self.ground, g as usize / 4);
-                corners_between(here, side, there, g as usize % 4)
-            }
+        match self.crossing(item, side) {
+            Some(step) => step,
             None => <Corner as Label>::neutral(),
         }
     }

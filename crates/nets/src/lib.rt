@@ -5,7 +5,6 @@
 mod corner_step;
 mod corners;
 mod edges;
-mod joins;
 mod star_net;
 mod vertices;
 

@@ -1,11 +1,12 @@
 //! The star net: the cells, joined across the triangles that hold an edge or a vertex.
 ghost use Rattle.std.specs.Prelude.{◌≡◌};
-ghost use Rattle.rules.specs.NetTests.{star_web};
+ghost use Rattle.rules.specs.NetTests.{holds, star_web};
 ghost use Rattle.ground.specs.Grounds.{plain_sealed};
+ghost use Rattle.halves.specs.HalfFaces.{rows_of};
 
-use crate::joins::{holds, place};
-use carry::{Label, Net, Place, Turn};
+use carry::{Net, Place, Turn};
 use ground::Sealed;
+use halves::HalfFace;
 
 // All steps are straight, so labels always agree: carry counts the pieces.
 #[derive(Clone, Copy)]
@@ -13,6 +14,14 @@ pub(crate) struct StarNet<'g, 'a> {
     pub(crate) ground: &'g Sealed<'a>,
     pub(crate) v: u16,
     pub(crate) w: u16,
+}
+
+// Whether the half-face has both vertices.
+fn holds(half_face: HalfFace, v: u16, w: u16) -> bool
+    ensures { result ≡ holds (rows_of half_face.entry) v w half_face.entry.number }
+{
+    let triangle = half_face.reading();
+    triangle.contains(&v) && triangle.contains(&w)
 }
 
 impl Net for StarNet<'_, '_> {
@@ -31,16 +40,11 @@ impl Net for StarNet<'_, '_> {
     }
 
     fn join(&self, item: usize, side: usize) -> Option<Place> {
-        match place(self.ground, item, side) {
-            Some(p) => {
-                if holds(self.ground, 4 * item + side, self.v, self.w) {
-                    Some(p)
-                } else {
-                    None
-                }
-            }
-            None => None,
+        let crossed = HalfFace::at(self.ground, item, side)?;
+        if !holds(crossed, self.v, self.w) {
+            return None;
         }
+        self.ground.turn_net().join(item, side)
     }
 
     fn step(&self, _item: usize, _side: usize) -> Turn {

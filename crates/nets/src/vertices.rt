@@ -1,37 +1,36 @@
 //! Whether the cells at a vertex and at its edges hang together across their triangles.
-ghost use Rattle.std.specs.Prelude.{◌≡◌, ℕ, ◌<◌, ◌≤◌, true, ◌↔◌, [], length, slice_index_or};
+ghost use Rattle.std.specs.Prelude.{◌≡◌, ℕ, ◌<◌, true, ◌↔◌, [], length, slice_index_or};
 ghost use Rattle.rules.specs.Rows.{corner};
-ghost use Rattle.rules.specs.Joins.{LawfulRows};
 ghost use Rattle.rules.specs.Listings.{Listing};
 ghost use Rattle.rules.specs.Questions.{AtVertex};
 ghost use Rattle.rules.specs.Soundness.{Edge, EdgeSound, TellsVertexSound};
 ghost use Rattle.ground.specs.Grounds.{plain_sealed};
 
 use crate::edges::{edge_sound, linked};
-use crate::joins::corners;
 use ground::Sealed;
+use halves::HalfFace;
 use refusal::Refusal;
 
 // Whether the edge of v and w is sound, if it is one.
 fn no_unsound_edge(ground: &Sealed, v: u16, w: u16) -> bool
-    requires { LawfulRows (plain_sealed ground.now).list }
     ensures { (result ≡ true) ↔ (Edge (plain_sealed ground.now).list v w → EdgeSound (plain_sealed ground.now).list v w) }
 {
-    match edge_sound(ground, v, w) {
-        Ok(sound) => sound,
-        Err(_) => true,
-    }
+    // With its counts a ground tells that its vertices are in range: no edge is refused.
+    let _ = ground.counts();
+    edge_sound(ground, v, w).unwrap_or(true)
 }
 
 // Whether the edges from v to the other vertices of the cell t are sound.
 fn cell_edges_sound(ground: &Sealed, v: u16, t: usize) -> bool
-    requires inside { (t < length (plain_sealed ground.now).list) × (length (plain_sealed ground.now).list ≤ 1024) }
-    requires lawful { LawfulRows (plain_sealed ground.now).list }
+    requires { t < length (plain_sealed ground.now).list }
     ensures { (result ≡ true) ↔ ((i : ℕ) → i < 4 → Edge (plain_sealed ground.now).list v (corner (slice_index_or (plain_sealed ground.now).list t []) i) → EdgeSound (plain_sealed ground.now).list v (corner (slice_index_or (plain_sealed ground.now).list t []) i)) }
 {
-    let row = corners(ground, t);
-    for i in 0..4 {
-        if !no_unsound_edge(ground, v, row[i]) {
+    let Some(half_face) = HalfFace::at(ground, t, 0) else {
+        unreachable()
+    };
+    let row = half_face.corners();
+    for w in &row {
+        if !no_unsound_edge(ground, v, *w) {
             return false;
         }
     }
@@ -40,9 +39,7 @@ fn cell_edges_sound(ground: &Sealed, v: u16, t: usize) -> bool
 
 // Whether the edges at v are sound; `cells` are the cells that have v.
 fn edges_sound(ground: &Sealed, v: u16, cells: &[u16]) -> bool
-    requires cells { Listing (AtVertex (plain_sealed ground.now).list v) cells.now }
-    requires few { length (plain_sealed ground.now).list ≤ 1024 }
-    requires lawful { LawfulRows (plain_sealed ground.now).list }
+    requires { Listing (AtVertex (plain_sealed ground.now).list v) cells.now }
     ensures { (result ≡ true) ↔ ((w : ℕ) → Edge (plain_sealed ground.now).list v w → EdgeSound (plain_sealed ground.now).list v w) }
 {
     for t in cells {
@@ -58,16 +55,12 @@ fn edges_sound(ground: &Sealed, v: u16, cells: &[u16]) -> bool
 pub fn vertex_sound(ground: &Sealed, v: u16) -> Result<bool, Refusal>
     ensures { TellsVertexSound (plain_sealed ground.now).list v result }
 {
-    let count = ground.counts().cells as usize;
+    // With its counts a ground tells that its cells are few, so that the list is long enough.
+    let _ = ground.counts();
     let mut cells = [0; 1024];
-    match ground.star(v, &mut cells) {
-        Ok(size) => {
-            if size == 0 {
-                return Err(Refusal::InNoCell);
-            }
-            let hang = linked(ground, count, v, v, size);
-            Ok(hang && edges_sound(ground, v, &cells[0..size]))
-        }
-        Err(refusal) => Err(refusal),
+    let size = ground.star(v, &mut cells)?;
+    if size == 0 {
+        return Err(Refusal::InNoCell);
     }
+    Ok(linked(ground, v, v, size) && edges_sound(ground, v, &cells[..size]))
 }

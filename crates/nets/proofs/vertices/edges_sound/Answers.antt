@@ -7,7 +7,7 @@ use Rattle.ground.specs.Grounds.{plain_sealed}
 use Rattle.nets.proofs.vertices.edges_sound.Goals as goal
 
 pub cell_edges_sound-requires : goal.cell_edges_sound-requires
-cell_edges_sound-requires c = record { inside = ((c.requires.cells.sound c.loop-t.t-index c.loop-t-test.true).0, c.requires.few); lawful = c.requires.lawful }
+cell_edges_sound-requires c = (c.requires.sound c.loop-t.t-index c.loop-t-test.true).0
 
 pub loop-t-preserved : goal.loop-t-preserved
 loop-t-preserved c =
@@ -27,4 +27,4 @@ returns-then-not-cell_edges_sound c = (
 pub returns : goal.returns
 returns c =
     let rs = (plain_sealed c.args.ground.now).list in
-    ((λ q. by_cells rs c.args.v c.args.cells.now c.requires.cells (λ i j l k. c.loop-t.invariant i j (let m = c.loop-t-test.false in omega arith) k)), (λ f. refl))
+    ((λ q. by_cells rs c.args.v c.args.cells.now c.requires (λ i j l k. c.loop-t.invariant i j (let m = c.loop-t-test.false in omega arith) k)), (λ f. refl))

@@ -1,35 +1,36 @@
-use Rattle.std.proofs.Common.{sym, arith}
-use Rattle.rules.proofs.Webbed.{joined_from}
-use Rattle.rules.proofs.Starred.{star_to, star_not, star_open}
+use Rattle.std.proofs.Common.{◌≡◌, ◌+◌, ◌*◌, ℕ, List, length, refl, sym, ap, ◌∙◌}
+use Rattle.std.proofs.lemmas.Bool.{cond-true}
+use Rattle.carry.specs.Webs.{Web}
+use Rattle.rules.specs.NetTests.{holds, placed, cell_joins, star_joins}
+use Rattle.rules.proofs.Starred.{star_not, star_open}
+use Rattle.rules.proofs.Webbed.{outside, partner_out}
 use Rattle.ground.specs.Grounds.{plain_sealed}
+use Rattle.halves.proofs.Grounds.{said_of}
 use Rattle.nets.proofs.star_net.StarNetNet.join.Goals as goal
 
-pub overflow_mul-item : goal.overflow_mul-item
-overflow_mul-item c =
-    let r = joined_from (plain_sealed c.args.self.now.ground.now).list c.args.item c.args.side c.in-Some.p (sym c.in-Some.ensures.joined) in
-    let l = r.0 in let f = c.in-Some.ensures.few in omega arith
-
-pub overflow_add-item : goal.overflow_add-item
-overflow_add-item c =
-    let r = joined_from (plain_sealed c.args.self.now.ground.now).list c.args.item c.args.side c.in-Some.p (sym c.in-Some.ensures.joined) in
-    let l = r.0 in let k = r.1 in let f = c.in-Some.ensures.few in omega arith
-
-pub holds-requires : goal.holds-requires
-holds-requires c =
-    let r = joined_from (plain_sealed c.args.self.now.ground.now).list c.args.item c.args.side c.in-Some.p (sym c.in-Some.ensures.joined) in
-    let l = r.0 in let k = r.1 in let f = c.in-Some.ensures.few in (omega arith, f)
-
-pub returns-then-holds : goal.returns-then-holds
-returns-then-holds c =
+pub returns-in_err-crossed : goal.returns-in_err-crossed
+unfolding cell_joins
+returns-in_err-crossed c =
     let n = c.args.self.now in
-    sym (star_to (plain_sealed n.ground.now).list n.v n.w c.args.item c.args.side c.in-Some.p (sym c.if-holds.ensures) (sym c.in-Some.ensures.joined))
+    let rs = (plain_sealed n.ground.now).list in
+    rw c.from_residual.ensures
+    (sym (star_open rs n.v n.w c.args.item c.args.side (ap placed (partner_out rs c.args.item c.args.side (outside rs (length rs) c.args.item c.args.side refl c.in_err-crossed.ensures)))))
 
-pub returns-else-holds : goal.returns-else-holds
-returns-else-holds c =
+pub returns-then-not-holds : goal.returns-then-not-holds
+returns-then-not-holds c =
     let n = c.args.self.now in
-    sym (star_not (plain_sealed n.ground.now).list n.v n.w c.args.item c.args.side (sym c.if-holds.ensures))
+    let at = c.in_ok-crossed.ensures in
+    let e = said_of (λ (rs : List (List ℕ)) (h : ℕ). c.holds.result ≡ holds rs n.v n.w h) c.in_ok-crossed.crossed n.ground (4 * c.args.item + c.args.side) at.0 at.1 c.holds.ensures in
+    sym (star_not (plain_sealed n.ground.now).list n.v n.w c.args.item c.args.side (sym e ∙ c.if-not-holds.true))
 
-pub returns-in-None : goal.returns-in-None
-returns-in-None c =
+pub returns : goal.returns
+unfolding star_joins
+returns c =
     let n = c.args.self.now in
-    sym (star_open (plain_sealed n.ground.now).list n.v n.w c.args.item c.args.side (sym c.in-None.ensures.joined))
+    let i = c.args.item in
+    let s = c.args.side in
+    let at = c.in_ok-crossed.ensures in
+    let e = said_of (λ (rs : List (List ℕ)) (h : ℕ). c.holds.result ≡ holds rs n.v n.w h) c.in_ok-crossed.crossed n.ground (4 * i + s) at.0 at.1 c.holds.ensures in
+    c.join.ensures
+    ∙ ap (λ (w : Web). w.joins i s) c.turn_net.ensures.computed
+    ∙ sym (cond-true (holds (plain_sealed n.ground.now).list n.v n.w (4 * i + s)) _ _ (sym e ∙ c.if-not-holds.false))
