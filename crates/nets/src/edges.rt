@@ -19,6 +19,7 @@ pub(crate) fn linked(ground: &Sealed, v: u16, w: u16, size: usize) -> bool
 {
     let count = ground.counts().cells as usize;
     let net = StarNet { ground, v, w };
+    // The libraries allocate nothing, so there is room for the cells of any ground.
     let mut labels = [Turn::Straight; 1024];
     let mut marks = [0u8; 1024];
     let Ok(pieces) = carry(&net, &mut labels, &mut marks) else {

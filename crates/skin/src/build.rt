@@ -33,6 +33,7 @@ fn item_numbers(triangles: &[u16]) -> [u16; 4096]
     requires few { length triangles.now ≤ 4096 }
     ensures { Numbered triangles.now result }
 {
+    // The libraries allocate nothing, so this is a table and no map.
     let mut items = [0; 4096];
     for (i, h) in triangles.iter().enumerate() {
         items[*h as usize] = i as u16;
@@ -71,6 +72,8 @@ fn all_sides(ground: &Sealed, triangles: &[u16], items: &[u16]) -> [Side; 12288]
         mate: 0,
         turn: Turn::Straight,
     }; 12288];
+    // By its index: of what `iter_mut` writes a proof learns nothing, and with `array::from_fn` it was
+    // not found that each side is what `side` told.
     for k in 0..3 * triangles.len() {
         sides[k] = side(ground, triangles, items, k);
     }
