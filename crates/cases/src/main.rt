@@ -6,18 +6,23 @@ mod table;
 use carry::Turn;
 use ground::{Cell, Open, make};
 use refusal::Refusal;
+use std::fmt;
 use table::proved_cases;
 
 // As many places as a ground takes.
 const PLACES: usize = 1024;
 
 // The answer of a call: its number, or the number of its refusal.
-fn print_answer(rt: &impl Print, answer: Result<usize, Refusal>) -> anyhow::Result<()> {
-    match answer {
-        Ok(n) => print!(rt; "{n}")?,
-        Err(cause) => print!(rt; "refusal {}", cause.number())?,
+#[derive(Clone, Copy)]
+struct Shown(Result<usize, Refusal>);
+
+impl fmt::Display for Shown {
+    fn fmt<W: fmt::Write>(&self, f: &mut fmt::Formatter<W>) -> fmt::Result {
+        match self.0 {
+            Ok(n) => write!(f, "{n}"),
+            Err(refusal) => write!(f, "refusal {}", refusal.number()),
+        }
     }
-    Ok(())
 }
 
 // A line that says what was run, what came, and whether that was due.
@@ -27,14 +32,10 @@ fn print_run(
     came: Result<usize, Refusal>,
     due: Result<usize, Refusal>,
 ) -> anyhow::Result<()> {
-    print!(rt; "{run}: ")?;
-    print_answer(rt, came)?;
     if came == due {
-        println!(rt; ", as expected")?;
+        println!(rt; "{run}: {}, as expected", Shown(came))?;
     } else {
-        print!(rt; ", NOT as expected: ")?;
-        print_answer(rt, due)?;
-        println!(rt; "")?;
+        println!(rt; "{run}: {}, NOT as expected: {}", Shown(came), Shown(due))?;
     }
     Ok(())
 }
@@ -48,19 +49,7 @@ fn orient_nothing() -> Result<usize, Refusal> {
 
 // Lays 1,024 cells with four vertices of their own each, all 4,096; what the last was answered.
 fn lay_all(ground: &mut Open) -> Result<u16, Refusal> {
-    let mut last = 0;
-    for t in 0..1024 {
-        let v: u16 = 4 * t;
-        last = ground.lay(v, v + 1, v + 2, v + 3)?;
-    }
-    Ok(last)
-}
-
-fn widened(answer: Result<u16, Refusal>) -> Result<usize, Refusal> {
-    match answer {
-        Ok(n) => Ok(n as usize),
-        Err(cause) => Err(cause),
-    }
+    (0..1024u16).try_fold(0, |_, t| ground.lay(4 * t, 4 * t + 1, 4 * t + 2, 4 * t + 3))
 }
 
 fn run(rt: &HostRuntime) -> anyhow::Result<()> {
@@ -71,13 +60,13 @@ fn run(rt: &HostRuntime) -> anyhow::Result<()> {
     print_run(
         rt,
         "lay 1024 cells in 1024 places",
-        widened(lay_all(&mut ground)),
+        lay_all(&mut ground).map(usize::from),
         Ok(1023),
     )?;
     print_run(
         rt,
         "lay one more",
-        widened(ground.lay(0, 1, 2, 4)),
+        ground.lay(0, 1, 2, 4).map(usize::from),
         Err(Refusal::NoFreePlace),
     )
 }
