@@ -10,15 +10,14 @@ use ground::{Cell, Sealed, make};
 use journal::{Desk, Exchange, replay};
 use nets::corner_net;
 use pit::station;
-use show::line;
+use show::Line;
 
 // The solver's own net, which the fuel company carries labels over: the corners of a ring of four cells.
 fn lay_ring(places: &mut [Cell]) -> Sealed<'_> {
     let mut ring = make(places);
-    let _ = ring.lay(0, 1, 2, 3);
-    let _ = ring.lay(0, 1, 3, 4);
-    let _ = ring.lay(0, 1, 4, 5);
-    let _ = ring.lay(0, 1, 5, 2);
+    for [a, b, c, d] in [[0, 1, 2, 3], [0, 1, 3, 4], [0, 1, 4, 5], [0, 1, 5, 2]] {
+        let _ = ring.lay(a, b, c, d);
+    }
     ring.seal()
 }
 
@@ -39,11 +38,16 @@ fn run(rt: &HostRuntime) -> anyhow::Result<()> {
             corners: &mut corners,
             labels: &mut labels,
             numbers: &mut numbers,
+            marks: &mut marks,
         };
-        let _ = replay(&mut places, &mut journal, &net, &mut desk, &mut marks);
+        let _ = replay(&mut places, &mut journal, &net, &mut desk);
     }
-    for exchange in &journal {
-        line(rt, exchange, &numbers)?;
+    for exchange in journal {
+        let line = Line {
+            exchange,
+            numbers: &numbers,
+        };
+        println!(rt; "{line}")?;
     }
     Ok(())
 }

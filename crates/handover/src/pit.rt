@@ -1,12 +1,10 @@
 //! The journal of one station.
 use index::{Pair, Triple};
-use journal::{Answer, Call, Change, Exchange, Part, Question};
+use journal::{Call, Change, Exchange, Part, Question};
 
+// A line whose call is still to be made.
 fn to_make(call: Call) -> Exchange {
-    Exchange {
-        call,
-        answer: Answer::NotMade,
-    }
+    Exchange { call, reply: None }
 }
 
 fn lay(a: u16, b: u16, c: u16, d: u16) -> Exchange {
@@ -21,17 +19,37 @@ fn turn(t: u16) -> Exchange {
     to_make(Call::Change(Change::Turn(t)))
 }
 
-// The first places of a list.
-fn first(places: usize) -> Part {
-    Part { from: 0, places }
-}
-
 fn orient(labels: usize, marks: usize) -> Exchange {
     to_make(Call::Change(Change::Orient(first(labels), first(marks))))
 }
 
 fn ask(question: Question) -> Exchange {
     to_make(Call::Ask(question))
+}
+
+fn find_face(first: u16, second: u16, third: u16, places: usize) -> Exchange {
+    ask(Question::FindFace(
+        Triple {
+            first,
+            second,
+            third,
+        },
+        places,
+    ))
+}
+
+fn find_edge(first: u16, second: u16, places: usize) -> Exchange {
+    ask(Question::FindEdge(Pair { first, second }, places))
+}
+
+// So many places of a list, from this one on.
+fn part(from: usize, places: usize) -> Part {
+    Part { from, places }
+}
+
+// The first places of a list.
+fn first(places: usize) -> Part {
+    part(0, places)
 }
 
 // The firm lays the pit round the first tank, one cell the wrong way round, and orients it. It seals
@@ -54,29 +72,13 @@ pub(crate) fn station() -> [Exchange; 36] {
         ask(Question::Opposite(1)),
         ask(Question::Mate(1, 0)),
         ask(Question::Mate(0, 0)),
-        ask(Question::Star(4, Part { from: 0, places: 8 })),
-        ask(Question::EdgeStar(2, 3, Part { from: 8, places: 8 })),
-        ask(Question::Skin(Part {
-            from: 16,
-            places: 16,
-        })),
+        ask(Question::Star(4, first(8))),
+        ask(Question::EdgeStar(2, 3, part(8, 8))),
+        ask(Question::Skin(part(16, 16))),
         ask(Question::EdgeSound(2, 3)),
         ask(Question::VertexSound(3)),
-        ask(Question::FindFace(
-            Triple {
-                first: 1,
-                second: 2,
-                third: 3,
-            },
-            16,
-        )),
-        ask(Question::FindEdge(
-            Pair {
-                first: 2,
-                second: 3,
-            },
-            4,
-        )),
+        find_face(1, 2, 3, 16),
+        find_edge(2, 3, 4),
         ask(Question::CarryTurns(first(8), first(8))),
         ask(Question::CarryCorners(first(8), first(8))),
         ask(Question::CarrySkin(first(32), first(32))),

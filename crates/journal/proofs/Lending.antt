@@ -1,5 +1,5 @@
 -- What a list is after a call was lent a part of it.
-use Rattle.std.proofs.Common.{◌≡◌, ℕ, ◌+◌, ◌-◌, List, length, take, drop, Result, sym, ap, ◌∙◌, subst, arith}
+use Rattle.std.proofs.Common.{◌≡◌, ℕ, ◌+◌, ◌-◌, List, length, Result, sym, ◌∙◌, subst, arith}
 use borrow.Rule.Slice.PartMut.{mid_of, put_mid, same_len_mid, mid_len, take_put, drop_put}
 use Rattle.std.proofs.lemmas.Slice.{between-put_mid}
 use Rattle.refusal.specs.declared.Refusal.{Refusal}
@@ -11,75 +11,87 @@ use Rattle.rules.specs.PlainList.{Plain}
 use Rattle.rules.specs.Orients.{Orients}
 use Rattle.journal.specs.declared.calls.Part.{Part}
 use Rattle.journal.specs.declared.calls.Change.TheVariants.{Orient}
-use Rattle.journal.specs.declared.calls.Answer.{Answer}
+use Rattle.journal.specs.declared.calls.Answer.TheVariants.{Number}
+use Rattle.journal.specs.Answers.{Came, replied}
 use Rattle.journal.specs.Parts.{part_of, Fits, Around}
-use Rattle.journal.specs.Answers.{numbered}
 use Rattle.journal.specs.Steps.{Changed, Carries, Lists}
 use Rattle.journal.specs.Steps.Changed.{orients}
 
--- what is lent, and the list with ys in its place
-abbrev pub lent : {A : Type 0} → Part → List A → List A
-lent p xs = mid_of p.from (p.from + p.places - p.from) xs
+-- what is lent from one place up to another, and the list with ys in its place
+abbrev pub lent : {A : Type 0} → ℕ → ℕ → List A → List A
+lent from to xs = mid_of from (to - from) xs
 
-abbrev pub back : {A : Type 0} → Part → List A → List A → List A
-back p xs ys = put_mid p.from (p.from + p.places - p.from) xs ys
+abbrev pub back : {A : Type 0} → ℕ → ℕ → List A → List A → List A
+back from to xs ys = put_mid from (to - from) xs ys
 
-module _ {A : Type 0} (p : Part) (xs ys : List A) (fits : Fits p xs) (same : length ys ≡ length (lent p xs)) where
-  size : length ys ≡ p.from + p.places - p.from
-  size = same ∙ mid_len p.from (p.from + p.places) xs fits
+-- a part of xs was lent, those places were, and ys came back in them
+pub record Lent {A : Type 0} (p : Part) (from to : ℕ) (xs ys : List A) : Type 0 where
+  pub starts : from ≡ p.from
+  pub ends : to ≡ p.from + p.places
+  pub fits : Fits p xs
+  pub same : length ys ≡ length (lent from to xs)
 
-  pub around : Around p xs (back p xs ys)
-  around = record {
-    long = same_len_mid p.from (p.from + p.places - p.from) xs ys same;
-    before = take_put p.from (p.from + p.places - p.from) xs ys (omega arith);
-    after = drop_put p.from (p.from + p.places) xs ys (omega arith) fits size;
-  }
+module _ {A : Type 0} (p : Part) (from to : ℕ) (xs ys : List A) (l : Lent p from to xs ys) where
+  size : length ys ≡ to - from
+  size = let s = l.starts in let e = l.ends in let f = l.fits in l.same ∙ mid_len from to xs (omega arith)
 
-  pub part_before : part_of p xs ≡ lent p xs
-  part_before = let e : p.places ≡ p.from + p.places - p.from = omega arith in ap (λ (n : ℕ). take n (drop p.from xs)) e
+  pub around : Around p xs (back from to xs ys)
+  around =
+      let s = l.starts in
+      let e = l.ends in
+      let f = l.fits in
+      record {
+        long = same_len_mid from (to - from) xs ys l.same;
+        before = rw (← s) (take_put from (to - from) xs ys (omega arith));
+        after = rw (← e) (drop_put from to xs ys (omega arith) (omega arith) size);
+      }
 
-  pub part_after : part_of p (back p xs ys) ≡ ys
+  pub part_before : part_of p xs ≡ lent from to xs
+  part_before =
+      let s = l.starts in
+      let e = l.ends in
+      let n : p.places ≡ to - from = omega arith in
+      rw (n, ← s)
+
+  pub part_after : part_of p (back from to xs ys) ≡ ys
   part_after =
-      let e : p.places ≡ p.from + p.places - p.from = omega arith in
-      ap (λ (n : ℕ). take n (drop p.from (back p xs ys))) e
-      ∙ between-put_mid p.from (p.from + p.places - p.from) xs ys (p.from + p.places) (omega arith) size
+      let s = l.starts in
+      let e = l.ends in
+      let n : p.places ≡ to - from = omega arith in
+      rw (n, ← s) (between-put_mid from (to - from) xs ys to (omega arith) size)
 
 -- a call that lists numbers
-pub listed : (Tells : List ℕ → Result ℕ Refusal → List ℕ → Type 0) (p : Part) (xs ys : List ℕ) (r : Result ℕ Refusal) (a : Answer) → Fits p xs → length ys ≡ length (lent p xs)
-    → a ≡ numbered r → Tells (lent p xs) r ys → Lists Tells p xs a (back p xs ys)
-listed Tells p xs ys r a fits same e t = record {
+pub listed : (Tells : List ℕ → Result ℕ Refusal → List ℕ → Type 0) (p : Part) (from to : ℕ) (xs ys : List ℕ) (r : Result ℕ Refusal) (a : Came) → Lent p from to xs ys
+    → a ≡ replied Number r → Tells (lent from to xs) r ys → Lists Tells p xs a (back from to xs ys)
+listed Tells p from to xs ys r a l e t = record {
   result = r;
   answer = e;
-  tells = subst (λ (l : List ℕ). Tells l r (part_of p (back p xs ys))) (sym (part_before p xs ys fits same))
-      (subst (λ (l : List ℕ). Tells (lent p xs) r l) (sym (part_after p xs ys fits same)) t);
-  rest = around p xs ys fits same;
+  tells = subst (λ (z : List ℕ). Tells z r (part_of p (back from to xs ys))) (sym (part_before p from to xs ys l))
+      (subst (λ (z : List ℕ). Tells (lent from to xs) r z) (sym (part_after p from to xs ys l)) t);
+  rest = around p from to xs ys l;
 }
 
--- a call that carries labels
-module _ {M : Type 0} (w : Web) (kind : Kind) (meaning : M → ℕ) (k m : Part) (xs ys : List M) (ms ns : List ℕ) (r : Result ℕ Refusal) (a : Answer) where
-  pub carries : Fits k xs → Fits m ms → length ys ≡ length (lent k xs) → length ns ≡ length (lent m ms) → a ≡ numbered r → Carried w kind meaning (lent k xs) (lent m ms) ys ns r
-      → Carries w kind meaning k m xs ms a (back k xs ys) (back m ms ns)
-  carries f g s t e c = record {
+-- a call that is handed labels and marks
+module _ {M : Type 0} (k m : Part) (a b c d : ℕ) (xs ys : List M) (ms ns : List ℕ) (l : Lent k a b xs ys) (n : Lent m c d ms ns) where
+  in_parts : (P : List M → List ℕ → List M → List ℕ → Type 0) → P (lent a b xs) (lent c d ms) ys ns → P (part_of k xs) (part_of m ms) (part_of k (back a b xs ys)) (part_of m (back c d ms ns))
+  in_parts P p =
+      subst (λ (z : List M). P z (part_of m ms) (part_of k (back a b xs ys)) (part_of m (back c d ms ns))) (sym (part_before k a b xs ys l))
+      (subst (λ (z : List ℕ). P (lent a b xs) z (part_of k (back a b xs ys)) (part_of m (back c d ms ns))) (sym (part_before m c d ms ns n))
+      (subst (λ (z : List M). P (lent a b xs) (lent c d ms) z (part_of m (back c d ms ns))) (sym (part_after k a b xs ys l))
+      (subst (λ (z : List ℕ). P (lent a b xs) (lent c d ms) ys z) (sym (part_after m c d ms ns n)) p)))
+
+  pub carries : (w : Web) (kind : Kind) (meaning : M → ℕ) (r : Result ℕ Refusal) (came : Came) → came ≡ replied Number r → Carried w kind meaning (lent a b xs) (lent c d ms) ys ns r
+      → Carries w kind meaning k m xs ms came (back a b xs ys) (back c d ms ns)
+  carries w kind meaning r came e h = record {
     result = r;
     answer = e;
-    carried =
-        subst (λ (l : List M). Carried w kind meaning l (part_of m ms) (part_of k (back k xs ys)) (part_of m (back m ms ns)) r) (sym (part_before k xs ys f s))
-        (subst (λ (l : List ℕ). Carried w kind meaning (lent k xs) l (part_of k (back k xs ys)) (part_of m (back m ms ns)) r) (sym (part_before m ms ns g t))
-        (subst (λ (l : List M). Carried w kind meaning (lent k xs) (lent m ms) l (part_of m (back m ms ns)) r) (sym (part_after k xs ys f s))
-        (subst (λ (l : List ℕ). Carried w kind meaning (lent k xs) (lent m ms) ys l r) (sym (part_after m ms ns g t)) c)));
-    labels = around k xs ys f s;
-    marks = around m ms ns g t;
+    carried = in_parts (λ x y x' y'. Carried w kind meaning x y x' y' r) h;
+    labels = around k a b xs ys l;
+    marks = around m c d ms ns n;
   }
 
--- a call that orients
-module _ (p q : Plain) (k m : Part) (xs ys : List Turn) (ms ns : List ℕ) (r : Result ℕ Refusal) (a : Answer) where
-  pub oriented : Fits k xs → Fits m ms → length ys ≡ length (lent k xs) → length ns ≡ length (lent m ms) → a ≡ numbered r → Orients p (lent k xs) (lent m ms) r q ys ns
-      → Changed p q (Orient k m) xs ms a (back k xs ys) (back m ms ns)
-  oriented f g s t e o =
-      subst (λ (b : Answer). Changed p q (Orient k m) xs ms b (back k xs ys) (back m ms ns)) (sym e)
-      (orients r
-      (subst (λ (l : List Turn). Orients p l (part_of m ms) r q (part_of k (back k xs ys)) (part_of m (back m ms ns))) (sym (part_before k xs ys f s))
-      (subst (λ (l : List ℕ). Orients p (lent k xs) l r q (part_of k (back k xs ys)) (part_of m (back m ms ns))) (sym (part_before m ms ns g t))
-      (subst (λ (l : List Turn). Orients p (lent k xs) (lent m ms) r q l (part_of m (back m ms ns))) (sym (part_after k xs ys f s))
-      (subst (λ (l : List ℕ). Orients p (lent k xs) (lent m ms) r q ys l) (sym (part_after m ms ns g t)) o))))
-      (around k xs ys f s) (around m ms ns g t))
+pub oriented : (p q : Plain) (k m : Part) (a b c d : ℕ) (xs ys : List Turn) (ms ns : List ℕ) (r : Result ℕ Refusal) (came : Came) → Lent k a b xs ys → Lent m c d ms ns
+    → came ≡ replied Number r → Orients p (lent a b xs) (lent c d ms) r q ys ns → Changed p q (Orient k m) xs ms came (back a b xs ys) (back c d ms ns)
+oriented p q k m a b c d xs ys ms ns r came l n e o =
+    subst (λ (z : Came). Changed p q (Orient k m) xs ms z (back a b xs ys) (back c d ms ns)) (sym e)
+    (orients r (in_parts k m a b c d xs ys ms ns l n (λ x y x' y'. Orients p x y r q x' y') o) (around k a b xs ys l) (around m c d ms ns n))

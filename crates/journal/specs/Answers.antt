@@ -1,30 +1,13 @@
--- What a call returns, as a line of a journal has it.
-use Rattle.std.specs.Prelude.{ℕ, Bool, List, Ok, Err, Option, Result}
+-- What came of a call, as a line of a journal has it.
+use Rattle.std.specs.Prelude.{Ok, Err, Option, Some, Result}
 use Rattle.refusal.specs.declared.Refusal.{Refusal}
-use Rattle.mates.specs.declared.side.EdgeSide.{EdgeSide}
 use Rattle.journal.specs.declared.calls.Answer.{Answer}
-use Rattle.journal.specs.declared.calls.Answer.TheVariants.{Number, Done, Reads, Told, Mate, Sound, Refused}
 
-abbrev pub numbered : Result ℕ Refusal → Answer
-numbered (Ok n) = Number n
-numbered (Err c) = Refused c
+-- an answer or a refusal, or none where the call was not made
+abbrev pub Came : Type 0
+Came = Option (Result Answer Refusal)
 
-abbrev pub done : Result (Unit {0}) Refusal → Answer
-done (Ok _) = Done
-done (Err c) = Refused c
-
-abbrev pub read : Result (List ℕ) Refusal → Answer
-read (Ok l) = Reads l
-read (Err c) = Refused c
-
-abbrev pub told : Result (Option ℕ) Refusal → Answer
-told (Ok o) = Told o
-told (Err c) = Refused c
-
-abbrev pub paired : Result EdgeSide Refusal → Answer
-paired (Ok m) = Mate m
-paired (Err c) = Refused c
-
-abbrev pub judged : Result Bool Refusal → Answer
-judged (Ok b) = Sound b
-judged (Err c) = Refused c
+-- of a call that returned r, which is told as an answer by tell
+abbrev pub replied : {A : Type 0} → (A → Answer) → Result A Refusal → Came
+replied tell (Ok x) = Some (Ok (tell x))
+replied tell (Err c) = Some (Err c)

@@ -17,9 +17,9 @@ use Rattle.journal.specs.declared.calls.Change.{Change as AChange}
 use Rattle.journal.specs.declared.calls.Change.TheVariants.{Lay, Turn as TurnCell, Orient}
 use Rattle.journal.specs.declared.calls.Call.{Call}
 use Rattle.journal.specs.declared.calls.Call.TheVariants.{Change, Seal, Reopen, Ask, Carry}
-use Rattle.journal.specs.declared.calls.Answer.{Answer}
-use Rattle.journal.specs.declared.calls.Answer.TheVariants.{Number, Done, Counted, Reads, Told, Mate, Sound, Refused, NotMade}
+use Rattle.journal.specs.declared.calls.Answer.TheVariants.{Number, Done}
 use Rattle.journal.specs.declared.calls.Exchange.{Exchange}
+use Rattle.journal.specs.Answers.{Came}
 use Rattle.journal.specs.States.{Ground, made, Given, State}
 use Rattle.journal.specs.Steps.{Changed, GivesParts}
 use Rattle.journal.specs.Runs.{Run, Replay}
@@ -27,47 +27,40 @@ use Rattle.journal.specs.Runs.{Run, Replay}
 -- THE PLAIN LIST, FED THE SAME CALLS
 
 -- the call was made
-abbrev pub was_made : Answer → Bool
-was_made (Number n) = true
-was_made Done = true
-was_made (Counted n) = true
-was_made (Reads l) = true
-was_made (Told o) = true
-was_made (Mate m) = true
-was_made (Sound b) = true
-was_made (Refused c) = true
-was_made NotMade = false
+abbrev pub was_made : Came → Bool
+was_made (Some r) = true
+was_made None = false
 
 -- the lays, lifts, turns and orients that were made, each with its answer
-abbrev pub kept : AChange → Answer → List (AChange × Answer)
+abbrev pub kept : AChange → Came → List (AChange × Came)
 kept c a = cond (was_made a) ((c, a) ∷ []) []
 
-abbrev pub change_of : Call → Answer → List (AChange × Answer)
+abbrev pub change_of : Call → Came → List (AChange × Came)
 change_of (Change c) a = kept c a
 change_of Seal a = []
 change_of Reopen a = []
 change_of (Ask q) a = []
 change_of (Carry k m) a = []
 
-abbrev pub changes_of : List Exchange → List (AChange × Answer)
+abbrev pub changes_of : List Exchange → List (AChange × Came)
 changes_of [] = []
-changes_of (x ∷ log) = change_of x.call x.answer ++ changes_of log
+changes_of (x ∷ log) = change_of x.call x.reply ++ changes_of log
 
--- the plain list p answers a to the change c and becomes q, whatever lists are handed over
-abbrev pub Feeds : Plain → AChange → Answer → Plain → Type 0
+-- the plain list p replies a to the change c and becomes q, whatever lists are handed over
+abbrev pub Feeds : Plain → AChange → Came → Plain → Type 0
 Feeds p c a q = (xs : List Turn) × (xs' : List Turn) × (ms : List ℕ) × (ms' : List ℕ) × GivesParts xs ms c × Changed p q c xs ms a xs' ms'
 
-pub data Fed : Plain → List (AChange × Answer) → Plain → Type 0 where
+pub data Fed : Plain → List (AChange × Came) → Plain → Type 0 where
   none : {p : Plain} → Fed p [] p
-  first : {p₁ p₂ p₃ : Plain} {c : AChange} {a : Answer} {cs : List (AChange × Answer)} → Feeds p₁ c a p₂ → Fed p₂ cs p₃ → Fed p₁ ((c, a) ∷ cs) p₃
+  first : {p₁ p₂ p₃ : Plain} {c : AChange} {a : Came} {cs : List (AChange × Came)} → Feeds p₁ c a p₂ → Fed p₂ cs p₃ → Fed p₁ ((c, a) ∷ cs) p₃
 
-abbrev pub calls_of : List (AChange × Answer) → List AChange
-calls_of cs = map (λ (x : AChange × Answer). x.0) cs
+abbrev pub calls_of : List (AChange × Came) → List AChange
+calls_of cs = map (λ (x : AChange × Came). x.0) cs
 
 -- The cells in order, and what lay, lift, turn and orient answered, refusals too, are those of a plain list that is fed the same calls, and of no other.
 pub record LikeThePlainList (n : ℕ) (log : List Exchange) (g : Ground) : Type 0 where
   pub fed : Fed (made n).plain (changes_of log) g.plain
-  pub only : (cs : List (AChange × Answer)) (q : Plain) → calls_of cs ≡ calls_of (changes_of log) → Fed (made n).plain cs q → (cs ≡ changes_of log) × (q ≡ g.plain)
+  pub only : (cs : List (AChange × Came)) (q : Plain) → calls_of cs ≡ calls_of (changes_of log) → Fed (made n).plain cs q → (cs ≡ changes_of log) × (q ≡ g.plain)
 
 -- What is told of opposites: the one other half-face with the same three vertices, which answers back; and none exactly when no other has them.
 pub record OppositesTold (rs : List (List ℕ)) : Type 0 where
@@ -105,12 +98,12 @@ OrientRefusesTruly p = (xs xs' : List Turn) (ms ms' : List ℕ) (r : Result ℕ 
 
 -- an orient that was accepted
 abbrev pub OrientAccepted : Exchange → Type 0
-OrientAccepted x = (k : Part) × (m : Part) × (n : ℕ) × (x ≡ record { call = Change (Orient k m); answer = Number n })
+OrientAccepted x = (k : Part) × (m : Part) × (n : ℕ) × (x ≡ record { call = Change (Orient k m); reply = Some (Ok (Number n)) })
 
 -- a lay or a turn that was accepted
 pub data LayOrTurnAccepted : Exchange → Type 0 where
-  lay : {a b c d n : ℕ} → LayOrTurnAccepted (record { call = Change (Lay a b c d); answer = Number n })
-  turn : {t : ℕ} → LayOrTurnAccepted (record { call = Change (TurnCell t); answer = Done })
+  lay : {a b c d n : ℕ} → LayOrTurnAccepted (record { call = Change (Lay a b c d); reply = Some (Ok (Number n)) })
+  turn : {t : ℕ} → LayOrTurnAccepted (record { call = Change (TurnCell t); reply = Some (Ok Done) })
 
 abbrev pub NoLayOrTurn : List Exchange → Type 0
 NoLayOrTurn [] = Unit {0}

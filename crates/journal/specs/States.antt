@@ -36,9 +36,9 @@ pub record State (M : Type 0) : Type 0 where
   pub numbers : List ℕ
   pub marks : List ℕ
 
--- a ground, the lists of a desk, and marks
-abbrev pub state_of : {M : Type 0} → Ground → Desk M → List ℕ → State M
-state_of g d ms = record { ground = g; turns = d.turns.now; corners = d.corners.now; labels = d.labels.now; numbers = d.numbers.now; marks = ms }
+-- a ground, and the lists of a desk
+abbrev pub state_of : {M : Type 0} → Ground → Desk M → State M
+state_of g d = record { ground = g; turns = d.turns.now; corners = d.corners.now; labels = d.labels.now; numbers = d.numbers.now; marks = d.marks.now }
 
 -- another ground, or other lists, and all else as in s
 abbrev pub with_ground : {M : Type 0} → State M → Ground → State M

@@ -51,8 +51,7 @@ pub enum Call {
     Carry(Part, Part),
 }
 
-/// What a call answered. A call was not made where the ground did not allow it, open or sealed, or
-/// where it hands over more places than there are.
+/// What a call answers if it is not refused.
 #[derive(Clone, Copy)]
 pub enum Answer {
     Number(usize),
@@ -62,13 +61,15 @@ pub enum Answer {
     Told(Option<u16>),
     Mate(EdgeSide),
     Sound(bool),
-    Refused(Refusal),
-    NotMade,
 }
 
-/// A line of a journal: a call, and what it answered.
+/// What came of a call: its answer or its refusal, and `None` if it was not made, since the ground did
+/// not allow it, open or sealed, or since it hands over more places than there are.
+pub type Reply = Option<Result<Answer, Refusal>>;
+
+/// A line of a journal: a call, and what came of it.
 #[derive(Clone, Copy)]
 pub struct Exchange {
     pub call: Call,
-    pub answer: Answer,
+    pub reply: Reply,
 }

@@ -1,7 +1,6 @@
 //! Journals of calls, and the call that replays one.
 #![tactic(auto)]
 
-mod answers;
 mod calls;
 mod change;
 mod desk;
@@ -9,7 +8,8 @@ mod found;
 mod parts;
 mod question;
 mod runs;
+mod stage;
 
-pub use calls::{Answer, Call, Change, Exchange, Part, Question};
+pub use calls::{Answer, Call, Change, Exchange, Part, Question, Reply};
 pub use desk::Desk;
 pub use runs::replay;

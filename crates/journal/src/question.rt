@@ -2,94 +2,52 @@
 ghost use Rattle.ground.specs.Grounds.{plain_sealed};
 ghost use Rattle.journal.specs.Tries.{Asks};
 
-use crate::answers::{pairing, reading, tell, verdict};
-use crate::calls::{Answer, Question};
+use crate::calls::{Answer, Question, Reply};
 use crate::desk::Desk;
 use crate::found::{find_edge, find_face};
-use crate::parts::{carry_over, edge_star, fits, skin, star};
+use crate::parts::carry_over;
 use ground::Sealed;
 use mates::mate;
 use nets::{corner_net, edge_sound, vertex_sound};
 use skin::skin_net;
 
 // Asks the question, if the lists have the parts that it is handed.
-pub(crate) fn ask<L>(
-    ground: &Sealed,
-    question: Question,
-    desk: &mut Desk<L>,
-    marks: &mut [u8],
-) -> Answer
-    ensures { Asks (plain_sealed ground.now) desk.old marks.old question result desk.new marks.new }
+pub(crate) fn ask<L>(ground: &Sealed, question: Question, desk: &mut Desk<L>) -> Reply
+    ensures { Asks (plain_sealed ground.now) desk.old question result desk.new }
 {
     match question {
-        Question::Counts => Answer::Counted(ground.counts()),
-        Question::Changes => Answer::Number(ground.changes() as usize),
-        Question::Reading(h) => reading(ground.reading(h)),
-        Question::Opposite(h) => tell(ground.opposite(h)),
-        Question::Mate(h, place) => pairing(mate(ground, h, place)),
+        Question::Counts => Some(Ok(Answer::Counted(ground.counts()))),
+        Question::Changes => Some(Ok(Answer::Number(ground.changes() as usize))),
+        Question::Reading(h) => Some(ground.reading(h).map(Answer::Reads)),
+        Question::Opposite(h) => Some(ground.opposite(h).map(Answer::Told)),
+        Question::Mate(h, place) => Some(mate(ground, h, place).map(Answer::Mate)),
         Question::Star(v, k) => {
-            let room = desk.numbers.len();
-            if fits(k, room) {
-                star(ground, v, k, desk.numbers)
-            } else {
-                Answer::NotMade
-            }
+            let part = k.within(desk.numbers.len())?;
+            Some(ground.star(v, &mut desk.numbers[part]).map(Answer::Number))
         }
         Question::EdgeStar(v, w, k) => {
-            let room = desk.numbers.len();
-            if fits(k, room) {
-                edge_star(ground, v, w, k, desk.numbers)
-            } else {
-                Answer::NotMade
-            }
+            let part = k.within(desk.numbers.len())?;
+            let listed = ground.edge_star(v, w, &mut desk.numbers[part]);
+            Some(listed.map(Answer::Number))
         }
         Question::Skin(k) => {
-            let room = desk.numbers.len();
-            if fits(k, room) {
-                skin(ground, k, desk.numbers)
-            } else {
-                Answer::NotMade
-            }
+            let part = k.within(desk.numbers.len())?;
+            Some(ground.skin(&mut desk.numbers[part]).map(Answer::Number))
         }
-        Question::EdgeSound(v, w) => verdict(edge_sound(ground, v, w)),
-        Question::VertexSound(v) => verdict(vertex_sound(ground, v)),
-        Question::FindFace(key, places) => {
-            if places <= 4096 {
-                tell(find_face(ground, key, places))
-            } else {
-                Answer::NotMade
-            }
+        Question::EdgeSound(v, w) => Some(edge_sound(ground, v, w).map(Answer::Sound)),
+        Question::VertexSound(v) => Some(vertex_sound(ground, v).map(Answer::Sound)),
+        Question::FindFace(key, places) if places <= 4096 => {
+            Some(find_face(ground, key, places).map(Answer::Told))
         }
-        Question::FindEdge(key, places) => {
-            if places <= 12288 {
-                tell(find_edge(ground, key, places))
-            } else {
-                Answer::NotMade
-            }
+        Question::FindEdge(key, places) if places <= 12288 => {
+            Some(find_edge(ground, key, places).map(Answer::Told))
         }
-        Question::CarryTurns(k, m) => {
-            let room = desk.turns.len();
-            if fits(k, room) && fits(m, marks.len()) {
-                carry_over(&ground.turn_net(), k, desk.turns, m, marks)
-            } else {
-                Answer::NotMade
-            }
-        }
+        Question::FindFace(_, _) | Question::FindEdge(_, _) => None,
+        Question::CarryTurns(k, m) => carry_over(&ground.turn_net(), desk.turns, k, desk.marks, m),
         Question::CarryCorners(k, m) => {
-            let room = desk.corners.len();
-            if fits(k, room) && fits(m, marks.len()) {
-                carry_over(&corner_net(ground), k, desk.corners, m, marks)
-            } else {
-                Answer::NotMade
-            }
+            let net = corner_net(ground);
+            carry_over(&net, desk.corners, k, desk.marks, m)
         }
-        Question::CarrySkin(k, m) => {
-            let room = desk.turns.len();
-            if fits(k, room) && fits(m, marks.len()) {
-                carry_over(&skin_net(ground), k, desk.turns, m, marks)
-            } else {
-                Answer::NotMade
-            }
-        }
+        Question::CarrySkin(k, m) => carry_over(&skin_net(ground), desk.turns, k, desk.marks, m),
     }
 }

@@ -1,24 +1,39 @@
-use Rattle.std.proofs.Common.{Ok, Err}
+use Rattle.std.proofs.Common.{◌≡◌, Some, refl, rules}
 use Rattle.ground.specs.Grounds.{plain}
+use Rattle.journal.specs.declared.calls.Answer.TheVariants.{Number, Done}
+use Rattle.journal.specs.Answers.{replied}
+use Rattle.journal.specs.Steps.Tried.{makes}
 use Rattle.journal.proofs.Altering.{laid, lifted, turned}
+use Rattle.journal.proofs.Lending.{oriented}
 use Rattle.journal.proofs.change.alter.Goals as goal
 
-pub returns-in-Ok : goal.returns-in-Ok
-returns-in-Ok g c =
-    laid (plain c.args.ground.now) (plain c.lay.new.self) c.args.desk.now c.args.marks.now c.args.change
-    c.in-Lay.a c.in-Lay.b c.in-Lay.c c.in-Lay.d (Ok c.in-Ok.n) c.in-Lay.is c.in-Ok.ensures.lays
-
-pub returns-in-Err : goal.returns-in-Err
-returns-in-Err g c =
-    laid (plain c.args.ground.now) (plain c.lay.new.self) c.args.desk.now c.args.marks.now c.args.change
-    c.in-Lay.a c.in-Lay.b c.in-Lay.c c.in-Lay.d (Err c.in-Err.refusal) c.in-Lay.is c.in-Err.ensures.lays
+pub returns-in-Lay : goal.returns-in-Lay
+returns-in-Lay g c =
+    let e : Some c.map.result ≡ replied Number c.lay.result = search rules in
+    rw (c.in-Lay.is, e) (laid (plain c.args.ground.now) (plain c.lay.new.self) c.args.desk.now _ _ _ _ _ c.lay.ensures.lays)
 
 pub returns-in-Lift : goal.returns-in-Lift
 returns-in-Lift g c =
-    lifted (plain c.args.ground.now) (plain c.lift.new.self) c.args.desk.now c.args.marks.now c.args.change
-    c.in-Lift.t c.lift.result c.finish.result c.in-Lift.is c.finish.ensures c.lift.ensures.lifts
+    let e : Some c.map-in-Lift.result ≡ replied (λ _. Done) c.lift.result = search rules in
+    rw (c.in-Lift.is, e) (lifted (plain c.args.ground.now) (plain c.lift.new.self) c.args.desk.now _ _ c.lift.ensures.lifts)
 
 pub returns-in-Turn : goal.returns-in-Turn
 returns-in-Turn g c =
-    turned (plain c.args.ground.now) (plain c.turn.new.self) c.args.desk.now c.args.marks.now c.args.change
-    c.in-Turn.t c.turn.result c.finish-in-Turn.result c.in-Turn.is c.finish-in-Turn.ensures c.turn.ensures.turns
+    let e : Some c.map-in-Turn.result ≡ replied (λ _. Done) c.turn.result = search rules in
+    rw (c.in-Turn.is, e) (turned (plain c.args.ground.now) (plain c.turn.new.self) c.args.desk.now _ _ c.turn.ensures.turns)
+
+pub returns-in_ok-m-in-Orient : goal.returns-in_ok-m-in-Orient
+returns-in_ok-m-in-Orient g c =
+    let k = c.in_ok-k-in-Orient.ensures in
+    let m = c.in_ok-m-in-Orient.ensures in
+    let e : Some c.map-in-Orient.result ≡ replied Number c.orient-turned.result = search rules in
+    rw c.in-Orient.is
+    (makes (k.2, m.2) (
+      oriented (plain c.args.ground.now) (plain c.orient-turned.new.self) c.in-Orient.k c.in-Orient.m
+          c.in_ok-k-in-Orient.k.start c.in_ok-k-in-Orient.k.end c.in_ok-m-in-Orient.m.start c.in_ok-m-in-Orient.m.end
+          c.args.desk.now.turns.now c.orient-turned.new.labels c.args.desk.now.marks.now c.orient-turned.new.marks c.orient-turned.result (Some c.map-in-Orient.result)
+          (record { starts = k.0; ends = k.1; fits = k.2; same = c.orient-turned.auto.labels })
+          (record { starts = m.0; ends = m.1; fits = m.2; same = c.orient-turned.auto.marks })
+          e c.orient-turned.ensures.orients,
+      refl,
+    ))

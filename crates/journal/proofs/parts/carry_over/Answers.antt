@@ -1,8 +1,18 @@
+use Rattle.std.proofs.Common.{◌≡◌, Some, rules}
+use Rattle.journal.specs.declared.calls.Answer.TheVariants.{Number}
+use Rattle.journal.specs.Answers.{replied}
+use Rattle.journal.specs.Steps.Tried.{makes}
 use Rattle.journal.proofs.Lending.{carries}
 use Rattle.journal.proofs.parts.carry_over.Goals as goal
 
 pub returns : goal.returns
 returns g c =
-    carries (g.N.Net.web c.args.net.now) g.N.Label.Label.kind g.N.Label.Label.meaning c.args.k c.args.m
-    c.args.labels.now c.carry.new.labels c.args.marks.now c.carry.new.marks c.carry.result c.number.result
-    c.requires.0 c.requires.1 c.carry.auto.labels c.carry.auto.marks c.number.ensures c.carry.ensures
+    let k = c.in_ok-k.ensures in
+    let m = c.in_ok-m.ensures in
+    let e : Some c.map.result ≡ replied Number c.carry.result = search rules in
+    makes (k.2, m.2)
+    (carries c.args.k c.args.m c.in_ok-k.k.start c.in_ok-k.k.end c.in_ok-m.m.start c.in_ok-m.m.end
+    c.args.labels.now c.carry.new.labels c.args.marks.now c.carry.new.marks
+    (record { starts = k.0; ends = k.1; fits = k.2; same = c.carry.auto.labels })
+    (record { starts = m.0; ends = m.1; fits = m.2; same = c.carry.auto.marks })
+    (g.N.Net.web c.args.net.now) g.N.Label.Label.kind g.N.Label.Label.meaning c.carry.result (Some c.map.result) e c.carry.ensures)
