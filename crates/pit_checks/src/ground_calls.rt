@@ -32,6 +32,13 @@ pub(crate) fn lay_strip(rt: &impl Abort, ground: &mut Open, n: u16)
     }
 }
 
+// Lays cells that are accepted, of a ground without cells.
+pub(crate) fn lay_rows(rt: &impl Abort, ground: &mut Open, rows: &[[u16; 4]]) {
+    for (t, row) in (0..u16::MAX).zip(rows) {
+        lays(rt, ground, *row, Ok(t));
+    }
+}
+
 pub(crate) fn reads(rt: &impl Abort, ground: &Sealed, h: u16, answer: Result<[u16; 3], Refusal>) {
     assert_eq!(rt; ground.reading(h), answer);
 }
@@ -61,7 +68,22 @@ pub(crate) fn changes_are(rt: &impl Abort, ground: &Sealed, answer: u16) {
     assert_eq!(rt; ground.changes(), answer);
 }
 
-// Asks for a star with the first `room` of eight places, which all hold 9; they must hold `after` then.
+// Asks with the first `room` of eight places, which all hold 9; they must hold `after` then.
+fn lists<F: FnOnce(&mut [u16]) -> Result<usize, Refusal>>(
+    rt: &impl Abort,
+    room: usize,
+    answer: Result<usize, Refusal>,
+    after: [u16; 8],
+    ask: F,
+)
+    requires can { F.IsAlwaysCallable ask }
+    requires eight { room ≤ 8 }
+{
+    let mut out = [9; 8];
+    assert_eq!(rt; ask(&mut out[..room]), answer);
+    assert_eq!(rt; out, after);
+}
+
 pub(crate) fn star_is(
     rt: &impl Abort,
     ground: &Sealed,
@@ -72,12 +94,9 @@ pub(crate) fn star_is(
 )
     requires { room ≤ 8 }
 {
-    let mut out = [9; 8];
-    assert_eq!(rt; ground.star(v, &mut out[0..room]), answer);
-    assert_eq!(rt; out, after);
+    lists(rt, room, answer, after, |out| ground.star(v, out));
 }
 
-// The same of the star of an edge.
 pub(crate) fn edge_star_is(
     rt: &impl Abort,
     ground: &Sealed,
@@ -89,12 +108,9 @@ pub(crate) fn edge_star_is(
     requires { room ≤ 8 }
 {
     let [v, w] = edge;
-    let mut out = [9; 8];
-    assert_eq!(rt; ground.edge_star(v, w, &mut out[0..room]), answer);
-    assert_eq!(rt; out, after);
+    lists(rt, room, answer, after, |out| ground.edge_star(v, w, out));
 }
 
-// The same of the skin.
 pub(crate) fn skin_is(
     rt: &impl Abort,
     ground: &Sealed,
@@ -104,7 +120,5 @@ pub(crate) fn skin_is(
 )
     requires { room ≤ 8 }
 {
-    let mut out = [9; 8];
-    assert_eq!(rt; ground.skin(&mut out[0..room]), answer);
-    assert_eq!(rt; out, after);
+    lists(rt, room, answer, after, |out| ground.skin(out));
 }

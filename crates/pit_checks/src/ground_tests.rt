@@ -1,6 +1,7 @@
 //! Lay, lift and turn: what is joined after them, what they refuse, and what a refusal leaves.
 use crate::ground_calls::{
-    are_opposites, changes_are, counts_are, lay_strip, lays, lifts, opposite_is, reads, turns,
+    are_opposites, changes_are, counts_are, lay_rows, lay_strip, lays, lifts, opposite_is, reads,
+    turns,
 };
 use ground::{Cell, Open, Sealed, make};
 use refusal::Refusal;
@@ -95,8 +96,7 @@ fn lift_and_turn_refuse_a_number_of_no_cell(rt: HostRuntime) {
 
 // Two cells on the triangle 1 2 3.
 fn lay_on_a_triangle(rt: &impl Abort, ground: &mut Open) {
-    lays(rt, ground, [0, 1, 2, 3], Ok(0));
-    lays(rt, ground, [4, 1, 2, 3], Ok(1));
+    lay_rows(rt, ground, &[[0, 1, 2, 3], [4, 1, 2, 3]]);
 }
 
 #[test]
@@ -136,19 +136,28 @@ fn the_first_cause_is_told_of_a_full_ground(rt: HostRuntime) {
 
 // The eight half-faces read so, and there are no others.
 fn all_read(rt: &impl Abort, ground: &Sealed, readings: [[u16; 3]; 8]) {
-    for h in 0..8u16 {
-        reads(rt, ground, h, Ok(readings[h as usize]));
+    for (h, reading) in (0..8).zip(readings) {
+        reads(rt, ground, h, Ok(reading));
     }
     reads(rt, ground, 8, Err(Refusal::NoSuchNumber));
 }
 
 // All that a question tells of the ground that `lay_on_a_triangle` leaves.
 fn is_on_a_triangle(rt: &impl Abort, ground: &Sealed) {
-    let first = [[1, 2, 3], [2, 0, 3], [3, 0, 1], [0, 2, 1]];
-    let second = [[1, 2, 3], [2, 4, 3], [3, 4, 1], [4, 2, 1]];
-    let [a, b, c, d] = first;
-    let [e, f, g, h] = second;
-    all_read(rt, ground, [a, b, c, d, e, f, g, h]);
+    all_read(
+        rt,
+        ground,
+        [
+            [1, 2, 3],
+            [2, 0, 3],
+            [3, 0, 1],
+            [0, 2, 1],
+            [1, 2, 3],
+            [2, 4, 3],
+            [3, 4, 1],
+            [4, 2, 1],
+        ],
+    );
     are_opposites(rt, ground, 0, 4);
     for i in 1..4 {
         opposite_is(rt, ground, i, Ok(None));

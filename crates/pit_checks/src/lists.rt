@@ -11,9 +11,7 @@ use worklist::{Answer, check_list, next_to_run};
 fn take_line(out: &mut Vec<u8>, line: &[u8], written: Result<usize, Refusal>) -> Result<(), Fail> {
     match written {
         Ok(n) if n <= line.len() => {
-            for b in &line[0..n] {
-                out.push(*b)?;
-            }
+            out.extend_from_slice(&line[..n])?;
             Ok(())
         }
         _ => Err(Fail::new("a line does not fit")),

@@ -5,25 +5,21 @@ use nets::{corner_net, edge_sound, vertex_sound};
 use refusal::Refusal;
 use std::test::Fail;
 
-// Lays a cell that has to be accepted.
-fn lay(ground: &mut Open, row: [u16; 4]) -> Result<(), Fail> {
-    match ground.lay(row[0], row[1], row[2], row[3]) {
-        Ok(_) => Ok(()),
-        Err(_) => Err(Fail::new("a cell is refused")),
+// Lays cells that have to be accepted.
+fn lay_all(ground: &mut Open, rows: &[[u16; 4]]) -> Result<(), Fail> {
+    for [a, b, c, d] in rows {
+        if ground.lay(*a, *b, *c, *d).is_err() {
+            return Err(Fail::new("a cell is refused"));
+        }
     }
-}
-
-// Two cells.
-fn lay_two(ground: &mut Open, a: [u16; 4], b: [u16; 4]) -> Result<(), Fail> {
-    lay(ground, a)?;
-    lay(ground, b)
+    Ok(())
 }
 
 #[test]
 fn a_hinge_is_not_sound(rt: HostRuntime) -> Result<(), Fail> {
     let mut places = [Cell::free(); 8];
     let mut ground = make(&mut places);
-    lay_two(&mut ground, [0, 1, 2, 3], [0, 1, 4, 5])?;
+    lay_all(&mut ground, &[[0, 1, 2, 3], [0, 1, 4, 5]])?;
     let sealed = ground.seal();
     assert!(rt; edge_sound(&sealed, 0, 1) == Ok(false));
     assert!(rt; edge_sound(&sealed, 0, 2) == Ok(true));
@@ -36,7 +32,7 @@ fn a_hinge_is_not_sound(rt: HostRuntime) -> Result<(), Fail> {
 fn joined_cells_are_sound(rt: HostRuntime) -> Result<(), Fail> {
     let mut places = [Cell::free(); 8];
     let mut ground = make(&mut places);
-    lay_two(&mut ground, [0, 1, 2, 3], [1, 2, 3, 4])?;
+    lay_all(&mut ground, &[[0, 1, 2, 3], [1, 2, 3, 4]])?;
     let sealed = ground.seal();
     assert!(rt; edge_sound(&sealed, 1, 2) == Ok(true));
     assert!(rt; vertex_sound(&sealed, 1) == Ok(true));
@@ -47,7 +43,7 @@ fn joined_cells_are_sound(rt: HostRuntime) -> Result<(), Fail> {
 fn cells_that_share_a_vertex_alone_are_not_sound_there(rt: HostRuntime) -> Result<(), Fail> {
     let mut places = [Cell::free(); 8];
     let mut ground = make(&mut places);
-    lay_two(&mut ground, [0, 1, 2, 3], [0, 4, 5, 6])?;
+    lay_all(&mut ground, &[[0, 1, 2, 3], [0, 4, 5, 6]])?;
     let sealed = ground.seal();
     assert!(rt; edge_sound(&sealed, 0, 1) == Ok(true));
     assert!(rt; edge_sound(&sealed, 0, 4) == Ok(true));
@@ -59,7 +55,7 @@ fn cells_that_share_a_vertex_alone_are_not_sound_there(rt: HostRuntime) -> Resul
 fn soundness_is_refused(rt: HostRuntime) -> Result<(), Fail> {
     let mut places = [Cell::free(); 8];
     let mut ground = make(&mut places);
-    lay_two(&mut ground, [0, 1, 2, 3], [0, 4, 5, 6])?;
+    lay_all(&mut ground, &[[0, 1, 2, 3], [0, 4, 5, 6]])?;
     let sealed = ground.seal();
     assert!(rt; edge_sound(&sealed, 4096, 4096) == Err(Refusal::VertexTooHigh));
     assert!(rt; edge_sound(&sealed, 0, 4096) == Err(Refusal::VertexTooHigh));
@@ -70,29 +66,19 @@ fn soundness_is_refused(rt: HostRuntime) -> Result<(), Fail> {
     Ok(())
 }
 
-// What the corner label of a cell reads as a number.
-fn read(labels: &[Corner], i: usize) -> u16 {
-    if i < labels.len() {
-        labels[i].as_number()
-    } else {
-        0
-    }
-}
-
 #[test]
 fn a_ring_of_four_has_corner_labels(rt: HostRuntime) -> Result<(), Fail> {
     let mut places = [Cell::free(); 8];
     let mut ground = make(&mut places);
-    lay_two(&mut ground, [0, 1, 2, 3], [0, 1, 3, 4])?;
-    lay_two(&mut ground, [0, 1, 4, 5], [0, 1, 5, 2])?;
+    lay_all(
+        &mut ground,
+        &[[0, 1, 2, 3], [0, 1, 3, 4], [0, 1, 4, 5], [0, 1, 5, 2]],
+    )?;
     let sealed = ground.seal();
     let mut labels = [<Corner as Label>::neutral(); 4];
     let mut marks = [0u8; 4];
     assert!(rt; carry(&corner_net(&sealed), &mut labels, &mut marks) == Ok(1));
-    assert!(rt; read(&labels, 0) == 123);
-    assert!(rt; read(&labels, 1) == 132);
-    assert!(rt; read(&labels, 2) == 123);
-    assert!(rt; read(&labels, 3) == 132);
+    assert!(rt; labels.map(|label| label.as_number()) == [123, 132, 123, 132]);
     Ok(())
 }
 
@@ -100,8 +86,7 @@ fn a_ring_of_four_has_corner_labels(rt: HostRuntime) -> Result<(), Fail> {
 fn a_ring_of_three_has_none(rt: HostRuntime) -> Result<(), Fail> {
     let mut places = [Cell::free(); 8];
     let mut ground = make(&mut places);
-    lay_two(&mut ground, [0, 1, 2, 3], [0, 1, 3, 4])?;
-    lay(&mut ground, [0, 1, 4, 2])?;
+    lay_all(&mut ground, &[[0, 1, 2, 3], [0, 1, 3, 4], [0, 1, 4, 2]])?;
     let sealed = ground.seal();
     let mut labels = [<Corner as Label>::neutral(); 4];
     let mut marks = [0u8; 4];

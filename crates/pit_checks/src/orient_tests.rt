@@ -1,38 +1,25 @@
 //! Orient and the turn net: how many cells are turned, what is refused, and what is left.
+use crate::ground_calls::{are_opposites, lay_rows, lay_strip, reads};
 use carry::{Label, Net, Turn, carry};
-use ground::{Cell, Open, Sealed, make};
+use ground::{Cell, Open, make};
 use refusal::Refusal;
 use std::process::Abort;
 
-fn lays(rt: &impl Abort, ground: &mut Open, row: [u16; 4], t: u16) {
-    let [a, b, c, d] = row;
-    assert_eq!(rt; ground.lay(a, b, c, d), Ok(t));
-}
-
-// 0 1 2 3 and 1 2 3 4.
-fn lay_two(rt: &impl Abort, ground: &mut Open) {
-    lays(rt, ground, [0, 1, 2, 3], 0);
-    lays(rt, ground, [1, 2, 3, 4], 1);
-}
-
 // Seven cells in a ring that closes with a twist.
 fn lay_ring(rt: &impl Abort, ground: &mut Open) {
-    lay_two(rt, ground);
-    lays(rt, ground, [2, 3, 4, 5], 2);
-    lays(rt, ground, [3, 4, 5, 6], 3);
-    lays(rt, ground, [4, 5, 6, 1], 4);
-    lays(rt, ground, [5, 6, 1, 0], 5);
-    lays(rt, ground, [6, 1, 0, 2], 6);
-}
-
-fn reads(rt: &impl Abort, ground: &Sealed, h: u16, reading: [u16; 3]) {
-    assert_eq!(rt; ground.reading(h), Ok(reading));
-}
-
-// Each is the opposite of the other.
-fn are_opposites(rt: &impl Abort, ground: &Sealed, h: u16, g: u16) {
-    assert_eq!(rt; ground.opposite(h), Ok(Some(g)));
-    assert_eq!(rt; ground.opposite(g), Ok(Some(h)));
+    lay_rows(
+        rt,
+        ground,
+        &[
+            [0, 1, 2, 3],
+            [1, 2, 3, 4],
+            [2, 3, 4, 5],
+            [3, 4, 5, 6],
+            [4, 5, 6, 1],
+            [5, 6, 1, 0],
+            [6, 1, 0, 2],
+        ],
+    );
 }
 
 #[test]
@@ -41,15 +28,15 @@ fn two_cells_that_read_opposite_ways_are_left(rt: HostRuntime) {
     let mut labels = [Turn::Turned; 2];
     let mut marks = [9; 2];
     let mut ground = make(&mut places);
-    lay_two(&rt, &mut ground);
+    lay_strip(&rt, &mut ground, 2);
     assert_eq!(rt; ground.orient(&mut labels, &mut marks), Ok(0));
     assert_eq!(rt; labels, [Turn::Straight, Turn::Straight]);
     assert_eq!(rt; marks, [0, 0]);
     let ground = ground.seal();
     assert_eq!(rt; ground.changes(), 3);
     are_opposites(&rt, &ground, 0, 7);
-    reads(&rt, &ground, 0, [1, 2, 3]);
-    reads(&rt, &ground, 7, [1, 3, 2]);
+    reads(&rt, &ground, 0, Ok([1, 2, 3]));
+    reads(&rt, &ground, 7, Ok([1, 3, 2]));
 }
 
 #[test]
@@ -58,15 +45,14 @@ fn a_turned_cell_is_turned_back(rt: HostRuntime) {
     let mut labels = [Turn::Straight; 3];
     let mut marks = [9; 3];
     let mut ground = make(&mut places);
-    lays(&rt, &mut ground, [0, 1, 2, 3], 0);
-    lays(&rt, &mut ground, [4, 1, 2, 3], 1);
+    lay_rows(&rt, &mut ground, &[[0, 1, 2, 3], [4, 1, 2, 3]]);
     assert_eq!(rt; ground.orient(&mut labels, &mut marks), Ok(1));
     assert_eq!(rt; labels, [Turn::Straight, Turn::Turned, Turn::Straight]);
     assert_eq!(rt; marks, [0, 0, 9]);
     let ground = ground.seal();
     are_opposites(&rt, &ground, 0, 4);
-    reads(&rt, &ground, 0, [1, 2, 3]);
-    reads(&rt, &ground, 4, [1, 3, 2]);
+    reads(&rt, &ground, 0, Ok([1, 2, 3]));
+    reads(&rt, &ground, 4, Ok([1, 3, 2]));
 }
 
 #[test]
@@ -86,7 +72,7 @@ fn no_choice_of_turned_cells_works_in_the_ring(rt: HostRuntime) {
     let ground = ground.seal();
     assert_eq!(rt; ground.changes(), 7);
     are_opposites(&rt, &ground, 0, 7);
-    reads(&rt, &ground, 27, [6, 0, 1]);
+    reads(&rt, &ground, 27, Ok([6, 0, 1]));
 }
 
 #[test]
@@ -120,7 +106,7 @@ fn a_list_one_short_is_refused_and_left(rt: HostRuntime) {
     let mut few_labels = [Turn::Turned; 1];
     let mut few_marks = [9; 1];
     let mut ground = make(&mut places);
-    lay_two(&rt, &mut ground);
+    lay_strip(&rt, &mut ground, 2);
     assert_eq!(rt;
         ground.orient(&mut few_labels, &mut marks),
         Err(Refusal::ListTooShort)
@@ -142,9 +128,11 @@ fn turns_are_carried_over_the_net_of_a_sealed_ground(rt: HostRuntime) {
     let mut labels = [Turn::Turned; 3];
     let mut marks = [9; 3];
     let mut ground = make(&mut places);
-    lays(&rt, &mut ground, [0, 1, 2, 3], 0);
-    lays(&rt, &mut ground, [4, 1, 2, 3], 1);
-    lays(&rt, &mut ground, [5, 6, 7, 8], 2);
+    lay_rows(
+        &rt,
+        &mut ground,
+        &[[0, 1, 2, 3], [4, 1, 2, 3], [5, 6, 7, 8]],
+    );
     let ground = ground.seal();
     let net = ground.turn_net();
     assert_eq!(rt; carry(&net, &mut labels, &mut marks), Ok(2));
