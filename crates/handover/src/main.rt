@@ -21,7 +21,7 @@ fn lay_ring(places: &mut [Cell]) -> Sealed<'_> {
     ring.seal()
 }
 
-fn run(rt: &HostRuntime) -> anyhow::Result<()> {
+fn run(rt: &impl Print) -> anyhow::Result<()> {
     let mut own = [Cell::free(); 4];
     let ring = lay_ring(&mut own);
     let net = corner_net(&ring);

@@ -39,19 +39,13 @@ changed_once {xs = xs} {ys = ys} {ms = ms} {ns = ns} f g (orients {k} {m} r l _ 
 pub feeds_once : (p q q' : Plain) (c : AChange) (a b : Came) → Feeds p c a q → Feeds p c b q' → (a ≡ b) × (q ≡ q')
 feeds_once p q q' c a b f g = changed_once f.4 g.4 f.5 g.5
 
-same_head : {A : Type 0} (x y : A) (xs ys : List A) → x ∷ xs ≡ y ∷ ys → x ≡ y
-same_head x y xs ys e = cc
-
-same_tail : {A : Type 0} (x y : A) (xs ys : List A) → x ∷ xs ≡ y ∷ ys → xs ≡ ys
-same_tail x y xs ys e = cc
-
 pub fed_once : {p q q' : Plain} {cs ds : List (AChange × Came)} → Fed p cs q → Fed p ds q' → calls_of cs ≡ calls_of ds → (cs ≡ ds) × (q ≡ q')
 fed_once none none e = (refl, refl)
-fed_once none (first f g) e = let z : ◌≡◌ {A = ℕ} 0 1 = cc in absurd (omega arith)
-fed_once (first f g) none e = let z : ◌≡◌ {A = ℕ} 0 1 = cc in absurd (omega arith)
+fed_once none (first f g) e = absurd (cc)
+fed_once (first f g) none e = absurd (cc)
 fed_once (first {p₁} {p₂} {p₃} {c} {a} {cs} f g) (first {p₂ = q₂} {p₃ = q₃} {c = d} {a = b} {cs = ds} f' g') e =
-    let h : c ≡ d = same_head c d (calls_of cs) (calls_of ds) e in
-    let t = same_tail c d (calls_of cs) (calls_of ds) e in
+    let h : c ≡ d = cc in
+    let t : calls_of cs ≡ calls_of ds = cc in
     let o = feeds_once p₁ p₂ q₂ c a b f (subst (λ (x : AChange). Feeds p₁ x b q₂) (sym h) f') in
     let r = fed_once g (subst (λ (x : Plain). Fed x ds q₃) (sym o.1) g') t in
     let i : (c, a) ≡ (d, b) = cc in
@@ -103,11 +97,11 @@ fed_opposed (first f g) calm w o = fed_opposed g calm.1 (feeds_lawful f.5 w) (st
 
 -- after an accepted orient all joined triangles read opposite ways
 now_opposed : {p q : Plain} {c : AChange} {xs xs' : List Turn} {ms ms' : List ℕ} {a : Came} (k m : Part) (n : ℕ) → Changed p q c xs ms a xs' ms' → c ≡ Orient k m → a ≡ Some (Ok (Number n)) → LawfulRows p.list → AllOpposed q.list
-now_opposed k m n (lays r l) e f w = let z : ◌≡◌ {A = ℕ} 0 1 = cc in absurd (omega arith)
-now_opposed k m n (lifts r l) e f w = let z : ◌≡◌ {A = ℕ} 0 1 = cc in absurd (omega arith)
-now_opposed k m n (turns r l) e f w = let z : ◌≡◌ {A = ℕ} 0 1 = cc in absurd (omega arith)
+now_opposed k m n (lays r l) e f w = absurd (cc)
+now_opposed k m n (lifts r l) e f w = absurd (cc)
+now_opposed k m n (turns r l) e f w = absurd (cc)
 now_opposed k m n (orients (Ok i) l _ _) e f w = orients_opposed _ _ _ i _ _ _ l w
-now_opposed k m n (orients (Err c) l _ _) e f w = let z : ◌≡◌ {A = ℕ} 0 1 = cc in absurd (omega arith)
+now_opposed k m n (orients (Err c) l _ _) e f w = absurd (cc)
 
 pub oriented_now : (p q : Plain) (k m : Part) (n : ℕ) → Feeds p (Orient k m) (Some (Ok (Number n))) q → LawfulRows p.list → AllOpposed q.list
 oriented_now p q k m n f w = now_opposed k m n f.5 refl refl w

@@ -1,5 +1,4 @@
 pub mod Lending
-pub mod Altering
 pub mod Finding
 pub mod Feeding
 pub mod Running

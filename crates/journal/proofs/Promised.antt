@@ -33,7 +33,7 @@ carry_exact M e xs xs' ms ms' (Ok n) l m c =
     let long = c.2.labels.long in
     let room : e.web.items ≤ length xs' = omega arith in
     record {
-      refuses = (λ p. let z : ◌≡◌ {A = ℕ} 0 1 = cc in absurd (omega arith), λ never. absurd (never xs' (room, c.1.agrees)));
+      refuses = (λ p. absurd (cc), λ never. absurd (never xs' (room, c.1.agrees)));
       agree = λ _. ((room, c.1.agrees), c.1.grounded);
       only = λ _ ys a i k. c.1.only ys a.0.0 a.0.1 a.1 i k;
     }

@@ -5,6 +5,7 @@ use mates::EdgeSide;
 use refusal::Refusal;
 
 /// The places of a list that a call is handed: so many, from this one on.
+// No Range, which is not Copy: calls are copied.
 #[derive(Clone, Copy)]
 pub struct Part {
     pub from: usize,

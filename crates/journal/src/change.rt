@@ -11,7 +11,11 @@ pub(crate) fn alter<L>(ground: &mut Open, change: Change, desk: &mut Desk<L>) ->
     ensures { Alters (plain ground.old) desk.old change result (plain ground.new) desk.new }
 {
     match change {
-        Change::Lay(a, b, c, d) => Some(ground.lay(a, b, c, d).map(|t| Answer::Number(t as usize))),
+        Change::Lay(a, b, c, d) => Some(
+            ground
+                .lay(a, b, c, d)
+                .map(|t| Answer::Number(usize::from(t))),
+        ),
         Change::Lift(t) => Some(ground.lift(t).map(|_| Answer::Done)),
         Change::Turn(t) => Some(ground.turn(t).map(|_| Answer::Done)),
         Change::Orient(k, m) => {

@@ -1,6 +1,6 @@
 //! Calls that are handed parts of lists.
-ghost use Rattle.std.specs.Prelude.{◌≡◌, ℕ, ◌+◌, ◌<◌, ◌≤◌, List, MatchOption};
-ghost use Rattle.journal.specs.Parts.{Fits};
+ghost use Rattle.std.specs.Prelude.{ℕ, ◌+◌, ◌<◌, List, MatchOption};
+ghost use Rattle.journal.specs.Parts.{Fits, Within};
 ghost use Rattle.journal.specs.Steps.{Carries, Tried};
 
 use crate::calls::{Answer, Part, Reply};
@@ -10,7 +10,7 @@ use std::ops::Range;
 impl Part {
     // The places, if a list of so many has them.
     pub(crate) fn within(self, room: usize) -> Option<Range<usize>>
-        ensures { MatchOption result (room < self.from + self.places) (λ r. (r.start ≡ self.from) × (r.end ≡ self.from + self.places) × (self.from + self.places ≤ room)) }
+        ensures { MatchOption result (room < self.from + self.places) (Within self room) }
     {
         let end = self.from.checked_add(self.places)?;
         (end <= room).then_some(self.from..end)

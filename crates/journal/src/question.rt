@@ -17,7 +17,7 @@ pub(crate) fn ask<L>(ground: &Sealed, question: Question, desk: &mut Desk<L>) ->
 {
     match question {
         Question::Counts => Some(Ok(Answer::Counted(ground.counts()))),
-        Question::Changes => Some(Ok(Answer::Number(ground.changes() as usize))),
+        Question::Changes => Some(Ok(Answer::Number(usize::from(ground.changes())))),
         Question::Reading(h) => Some(ground.reading(h).map(Answer::Reads)),
         Question::Opposite(h) => Some(ground.opposite(h).map(Answer::Told)),
         Question::Mate(h, place) => Some(mate(ground, h, place).map(Answer::Mate)),

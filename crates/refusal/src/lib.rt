@@ -40,6 +40,7 @@ pub enum Refusal {
 
 impl Refusal {
     /// The number that stands for the refusal in an answer.
+    // No `From` beside it, which would say the same under a second name.
     pub fn number(self) -> u16
         ensures { result ≡ number_of self }
     {

@@ -2,25 +2,25 @@ use Rattle.std.proofs.Common.{◌≡◌, Some, refl, rules}
 use Rattle.ground.specs.Grounds.{plain}
 use Rattle.journal.specs.declared.calls.Answer.TheVariants.{Number, Done}
 use Rattle.journal.specs.Answers.{replied}
+use Rattle.journal.specs.Steps.Changed.{lays, lifts, turns}
 use Rattle.journal.specs.Steps.Tried.{makes}
-use Rattle.journal.proofs.Altering.{laid, lifted, turned}
 use Rattle.journal.proofs.Lending.{oriented}
 use Rattle.journal.proofs.change.alter.Goals as goal
 
 pub returns-in-Lay : goal.returns-in-Lay
 returns-in-Lay g c =
     let e : Some c.map.result ≡ replied Number c.lay.result = search rules in
-    rw (c.in-Lay.is, e) (laid (plain c.args.ground.now) (plain c.lay.new.self) c.args.desk.now _ _ _ _ _ c.lay.ensures.lays)
+    rw (c.in-Lay.is, e) (makes tt (lays c.lay.result c.lay.ensures.lays, refl))
 
 pub returns-in-Lift : goal.returns-in-Lift
 returns-in-Lift g c =
     let e : Some c.map-in-Lift.result ≡ replied (λ _. Done) c.lift.result = search rules in
-    rw (c.in-Lift.is, e) (lifted (plain c.args.ground.now) (plain c.lift.new.self) c.args.desk.now _ _ c.lift.ensures.lifts)
+    rw (c.in-Lift.is, e) (makes tt (lifts c.lift.result c.lift.ensures.lifts, refl))
 
 pub returns-in-Turn : goal.returns-in-Turn
 returns-in-Turn g c =
     let e : Some c.map-in-Turn.result ≡ replied (λ _. Done) c.turn.result = search rules in
-    rw (c.in-Turn.is, e) (turned (plain c.args.ground.now) (plain c.turn.new.self) c.args.desk.now _ _ c.turn.ensures.turns)
+    rw (c.in-Turn.is, e) (makes tt (turns c.turn.result c.turn.ensures.turns, refl))
 
 pub returns-in_ok-m-in-Orient : goal.returns-in_ok-m-in-Orient
 returns-in_ok-m-in-Orient g c =
@@ -28,12 +28,9 @@ returns-in_ok-m-in-Orient g c =
     let m = c.in_ok-m-in-Orient.ensures in
     let e : Some c.map-in-Orient.result ≡ replied Number c.orient-turned.result = search rules in
     rw c.in-Orient.is
-    (makes (k.2, m.2) (
-      oriented (plain c.args.ground.now) (plain c.orient-turned.new.self) c.in-Orient.k c.in-Orient.m
-          c.in_ok-k-in-Orient.k.start c.in_ok-k-in-Orient.k.end c.in_ok-m-in-Orient.m.start c.in_ok-m-in-Orient.m.end
+    (makes (k.fits, m.fits) (
+      oriented (plain c.args.ground.now) (plain c.orient-turned.new.self) c.in-Orient.k c.in-Orient.m c.in_ok-k-in-Orient.k c.in_ok-m-in-Orient.m
           c.args.desk.now.turns.now c.orient-turned.new.labels c.args.desk.now.marks.now c.orient-turned.new.marks c.orient-turned.result (Some c.map-in-Orient.result)
-          (record { starts = k.0; ends = k.1; fits = k.2; same = c.orient-turned.auto.labels })
-          (record { starts = m.0; ends = m.1; fits = m.2; same = c.orient-turned.auto.marks })
-          e c.orient-turned.ensures.orients,
+          (record { within = k; same = c.orient-turned.auto.labels }) (record { within = m; same = c.orient-turned.auto.marks }) e c.orient-turned.ensures.orients,
       refl,
     ))

@@ -10,9 +10,7 @@ returns g c =
     let k = c.in_ok-k.ensures in
     let m = c.in_ok-m.ensures in
     let e : Some c.map.result ≡ replied Number c.carry.result = search rules in
-    makes (k.2, m.2)
-    (carries c.args.k c.args.m c.in_ok-k.k.start c.in_ok-k.k.end c.in_ok-m.m.start c.in_ok-m.m.end
-    c.args.labels.now c.carry.new.labels c.args.marks.now c.carry.new.marks
-    (record { starts = k.0; ends = k.1; fits = k.2; same = c.carry.auto.labels })
-    (record { starts = m.0; ends = m.1; fits = m.2; same = c.carry.auto.marks })
+    makes (k.fits, m.fits)
+    (carries c.args.k c.args.m c.in_ok-k.k c.in_ok-m.m c.args.labels.now c.carry.new.labels c.args.marks.now c.carry.new.marks
+    (record { within = k; same = c.carry.auto.labels }) (record { within = m; same = c.carry.auto.marks })
     (g.N.Net.web c.args.net.now) g.N.Label.Label.kind g.N.Label.Label.meaning c.carry.result (Some c.map.result) e c.carry.ensures)

@@ -12,10 +12,9 @@ returns-in_ok-part-in-Star g c =
     let p = c.in_ok-part-in-Star.ensures in
     let e : Some c.map-in-Star.result ≡ replied Number c.star.result = search rules in
     rw c.in-Star.is
-    (makes p.2 (
-      listed (TellsStar (plain_sealed c.args.ground.now).list c.in-Star.v) c.in-Star.k c.in_ok-part-in-Star.part.start c.in_ok-part-in-Star.part.end
-          c.args.desk.now.numbers.now c.star.new.out c.star.result (Some c.map-in-Star.result)
-          (record { starts = p.0; ends = p.1; fits = p.2; same = c.star.auto.out }) e c.star.ensures,
+    (makes p.fits (
+      listed (TellsStar (plain_sealed c.args.ground.now).list c.in-Star.v) c.in-Star.k c.in_ok-part-in-Star.part c.args.desk.now.numbers.now c.star.new.out c.star.result (Some c.map-in-Star.result)
+          (record { within = p; same = c.star.auto.out }) e c.star.ensures,
       refl,
     ))
 
@@ -24,10 +23,9 @@ returns-in_ok-part-in-EdgeStar g c =
     let p = c.in_ok-part-in-EdgeStar.ensures in
     let e : Some c.map-in-EdgeStar.result ≡ replied Number c.edge_star-listed.result = search rules in
     rw c.in-EdgeStar.is
-    (makes p.2 (
-      listed (TellsEdgeStar (plain_sealed c.args.ground.now).list c.in-EdgeStar.v c.in-EdgeStar.w) c.in-EdgeStar.k c.in_ok-part-in-EdgeStar.part.start c.in_ok-part-in-EdgeStar.part.end
-          c.args.desk.now.numbers.now c.edge_star-listed.new.out c.edge_star-listed.result (Some c.map-in-EdgeStar.result)
-          (record { starts = p.0; ends = p.1; fits = p.2; same = c.edge_star-listed.auto.out }) e c.edge_star-listed.ensures,
+    (makes p.fits (
+      listed (TellsEdgeStar (plain_sealed c.args.ground.now).list c.in-EdgeStar.v c.in-EdgeStar.w) c.in-EdgeStar.k c.in_ok-part-in-EdgeStar.part c.args.desk.now.numbers.now c.edge_star-listed.new.out c.edge_star-listed.result (Some c.map-in-EdgeStar.result)
+          (record { within = p; same = c.edge_star-listed.auto.out }) e c.edge_star-listed.ensures,
       refl,
     ))
 
@@ -36,9 +34,8 @@ returns-in_ok-part-in-Skin g c =
     let p = c.in_ok-part-in-Skin.ensures in
     let e : Some c.map-in-Skin.result ≡ replied Number c.skin.result = search rules in
     rw c.in-Skin.is
-    (makes p.2 (
-      listed (TellsSkin (plain_sealed c.args.ground.now).list) c.in-Skin.k c.in_ok-part-in-Skin.part.start c.in_ok-part-in-Skin.part.end
-          c.args.desk.now.numbers.now c.skin.new.out c.skin.result (Some c.map-in-Skin.result)
-          (record { starts = p.0; ends = p.1; fits = p.2; same = c.skin.auto.out }) e c.skin.ensures,
+    (makes p.fits (
+      listed (TellsSkin (plain_sealed c.args.ground.now).list) c.in-Skin.k c.in_ok-part-in-Skin.part c.args.desk.now.numbers.now c.skin.new.out c.skin.result (Some c.map-in-Skin.result)
+          (record { within = p; same = c.skin.auto.out }) e c.skin.ensures,
       refl,
     ))
