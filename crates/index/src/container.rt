@@ -1,3 +1,4 @@
+//! The index: entries that rise by key, in the first places of a borrowed list.
 ghost use Rattle.std.specs.Prelude.{◌≡◌, ◌≤◌, [], length, take};
 ghost use Rattle.index.specs.Entries.{Rising};
 
@@ -8,6 +9,7 @@ use crate::keys::{Pair, Triple};
 use refusal::Refusal;
 
 /// Entries that rise by key, in the first places of a borrowed list.
+// The places are handed over and nothing is allocated, so how many are in use stands beside them.
 #[derive(Drop)]
 pub struct Index<'a, K: Key> {
     places: &'a mut [Entry<K>],

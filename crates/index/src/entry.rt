@@ -1,3 +1,5 @@
+//! What an index has in its places.
+
 /// A key and the half-face beside it.
 #[derive(Clone, Copy, PartialEq, Eq, Debug)]
 pub struct Entry<K> {

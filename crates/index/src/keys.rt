@@ -1,3 +1,4 @@
+//! The keys of edges and of triangles.
 ghost use Rattle.index.specs.KeyLemmas.{pair_identical, triple_identical};
 
 use crate::key::Key;

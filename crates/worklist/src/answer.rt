@@ -1,3 +1,4 @@
+//! The lines of output: what came of an order, or what is wrong with a list.
 ghost use Rattle.std.specs.Prelude.{Some};
 ghost use Rattle.worklist.specs.AnswerLines.{said, shown, bytes_of, Lined};
 
@@ -7,6 +8,7 @@ use refusal::Refusal;
 use std::fmt;
 
 /// What a line of output says.
+// Three kinds of line: a Result within a Result would not say which is which.
 #[derive(Clone, Copy)]
 pub enum Answer<'a> {
     /// `ok`: the order is accepted, with these numbers

@@ -1,3 +1,4 @@
+//! A text cut at a space or at the end of a line.
 ghost use Rattle.std.specs.Prelude.{MatchOption};
 ghost use Rattle.worklist.specs.ReaderSteps.{FirstAt, Cut, Lacks, Ended};
 

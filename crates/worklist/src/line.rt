@@ -1,3 +1,4 @@
+//! One line of a work list, read as an order.
 ghost use Rattle.std.specs.Prelude.{◌≡◌, ◌∷◌, length, MatchOption};
 ghost use Rattle.worklist.specs.ReaderSteps.{Says, Leads, NoneLeads, NoNumbers, Numbers};
 

@@ -1,3 +1,4 @@
+//! A whole work list: checked first, and then read order by order.
 ghost use Rattle.std.specs.Prelude.{◌≡◌, ◌<◌, List, [], ◌∷◌, length, IfSome, MatchOption};
 ghost use Rattle.worklist.specs.Lists.{Begins, NoneBegins, Checked, Once, Next, NoneNext, ToRun};
 ghost use Rattle.worklist.specs.ReaderSteps.{Judged};

@@ -1,3 +1,4 @@
+//! A number, as an order writes it.
 ghost use Rattle.worklist.specs.ReaderSteps.{Reads};
 
 use std::str::from_utf8;

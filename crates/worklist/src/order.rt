@@ -1,3 +1,5 @@
+//! The orders of a work list.
+
 /// What one line of a work list says.
 #[derive(Clone, Copy, PartialEq, Eq, Debug)]
 pub enum Order {

@@ -1,3 +1,4 @@
+//! Bytes put into a line that is handed over.
 ghost use Rattle.std.specs.Prelude.{◌≡◌, ◌+◌, ◌<◌, ◌≤◌, length, MatchOption};
 ghost use Rattle.worklist.specs.Written.{spaced};
 ghost use Rattle.worklist.specs.AnswerLines.{said};
