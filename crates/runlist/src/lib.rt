@@ -39,20 +39,6 @@ fn lay(ground: &mut Open, corners: [u16; 4], line: &mut [u8]) -> Result<usize, R
     say(laid, line)
 }
 
-// Lifts a cell.
-fn lift(ground: &mut Open, t: u16, line: &mut [u8]) -> Result<usize, Refusal>
-    ensures { Said (Lift t) (plain ground.old) (plain ground.new) line.old line.new result }
-{
-    say(ground.lift(t).map(|_| []), line)
-}
-
-// Turns a cell.
-fn turn(ground: &mut Open, t: u16, line: &mut [u8]) -> Result<usize, Refusal>
-    ensures { Said (TurnCell t) (plain ground.old) (plain ground.new) line.old line.new result }
-{
-    say(ground.turn(t).map(|_| []), line)
-}
-
 // Turns cells until all joined triangles read opposite ways, with labels and marks for as many cells as a ground can have.
 fn orient(ground: &mut Open, line: &mut [u8]) -> Result<usize, Refusal>
     ensures { Said Orient (plain ground.old) (plain ground.new) line.old line.new result }
@@ -113,11 +99,11 @@ pub fn obey<'a>(
             (ground, written)
         }
         Order::Lift(t) => {
-            let written = lift(&mut ground, t, line);
+            let written = say(ground.lift(t).map(|_| []), line);
             (ground, written)
         }
         Order::Turn(t) => {
-            let written = turn(&mut ground, t, line);
+            let written = say(ground.turn(t).map(|_| []), line);
             (ground, written)
         }
         Order::Orient => {

@@ -72,8 +72,8 @@ fn all_sides(ground: &Sealed, triangles: &[u16], items: &[u16]) -> [Side; 12288]
         mate: 0,
         turn: Turn::Straight,
     }; 12288];
-    // By its index: of what `iter_mut` writes a proof learns nothing, and with `array::from_fn` it was
-    // not found that each side is what `side` told.
+    // By its index: of an array of its own that `iter_mut` goes over a proof knows nothing, and with
+    // `array::from_fn` it was not found that each side is what `side` told.
     for k in 0..3 * triangles.len() {
         sides[k] = side(ground, triangles, items, k);
     }

@@ -23,7 +23,7 @@ fn numbers<const N: usize>(s: &[u8]) -> Option<[u16; N]>
 {
     let mut found = [0; N];
     let mut rest = s;
-    // By index: of a place written through `iter_mut` a proof knows nothing.
+    // By index: of an array of its own that `iter_mut` goes over a proof knows nothing.
     for i in 0..N {
         let (n, more) = next(rest)?;
         found[i] = n;
