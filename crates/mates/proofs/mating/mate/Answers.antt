@@ -8,6 +8,7 @@ use Rattle.rules.specs.Mates.{Mated}
 use Rattle.halves.specs.declared.edge.EdgePlace.{EdgePlace}
 use Rattle.halves.specs.declared.half_face.HalfFace.{HalfFace}
 use Rattle.halves.specs.HalfFaces.{rows_of}
+use Rattle.halves.proofs.Grounds.{said_of}
 use Rattle.mates.proofs.Refused.{place_first, half_first, first_joined, no_mate_cause}
 use Rattle.mates.proofs.Returning.{leads_back}
 use Rattle.mates.proofs.Opposed.{mates_opposed}
@@ -17,9 +18,7 @@ use Rattle.mates.proofs.mating.mate.Goals as goal
 asked : (sealed : Bor Sealed) (h e : ℕ) (here : HalfFace) (place : EdgePlace) → here.ground ≡ sealed → here.number ≡ h → place.number ≡ e
     → (P : List (List ℕ) → ℕ → ℕ → Type 0) → P (rows_of here) here.number place.number → P (plain_sealed sealed.now).list h e
 asked sealed h e here place g n p P x =
-    subst (P (plain_sealed sealed.now).list h) p
-    (subst (λ (k : ℕ). P (plain_sealed sealed.now).list k place.number) n
-    (subst (λ (s : Bor Sealed). P (plain_sealed s.now).list here.number place.number) g x))
+    subst (P (plain_sealed sealed.now).list h) p (said_of (λ (rs : List (List ℕ)) (k : ℕ). P rs k place.number) here sealed h g n x)
 
 pub returns-in_err-place-clause-tells : goal.returns-in_err-place-clause-tells
 returns-in_err-place-clause-tells c =
