@@ -2,7 +2,6 @@ mod Lookups
 mod Offers
 mod HandingOver
 mod Outcomes
-mod HalfFaces
 mod Rules
 mod Sorting
 mod Triangles

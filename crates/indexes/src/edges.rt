@@ -1,7 +1,8 @@
 //! The edge index: each edge with the half-face that stands for it.
-ghost use Rattle.std.specs.Prelude.{◌≡◌, ℕ, ◌+◌, ◌<◌, ◌≤◌, length, Some};
-ghost use Rattle.rules.specs.Joins.{Half, LawfulRows};
+ghost use Rattle.std.specs.Prelude.{◌≡◌, ℕ, ◌+◌, ◌<◌, ◌≤◌, ◌↔◌, length, Some, IsTrue};
+ghost use Rattle.rules.specs.Joins.{Half, OnSkin};
 ghost use Rattle.ground.specs.Grounds.{plain_sealed};
+ghost use Rattle.halves.specs.HalfFaces.{rows_of};
 ghost use Rattle.index.specs.Entries.{half_face_of};
 ghost use Rattle.index.specs.Held.{held};
 ghost use Rattle.index.specs.Keys.{pair_order};
@@ -9,43 +10,55 @@ ghost use Rattle.indexes.specs.Lists.{Makes};
 ghost use Rattle.indexes.specs.Edges.{RatherHalf, EdgeEntries};
 ghost use Rattle.indexes.specs.Gathered.{EdgesBefore, Offered};
 
-use crate::halves::{side, vertices};
 use crate::handing::hand_over;
 use crate::keys::rising_pair;
-use crate::rule::stands;
+use crate::rule::{Side, stands};
 use ground::Sealed;
+use halves::HalfFace;
 use index::{EdgeIndex, Entry, Pair};
 use refusal::Refusal;
 
-// Offers half-face h for one of its edges.
-fn put_edge(ground: &Sealed, h: u16, key: Pair, index: &mut EdgeIndex)
-    requires half { Half (plain_sealed ground.now).list h }
+// A half-face, and whether it is open.
+fn side(f: HalfFace) -> Side
+    ensures same { result.half_face ≡ f.entry.number }
+    ensures skin { IsTrue result.is_open ↔ OnSkin (rows_of f.entry) f.entry.number }
+{
+    Side {
+        half_face: f.number,
+        is_open: f.is_open(),
+    }
+}
+
+// Offers the half-face for one of its edges.
+fn put_edge(f: HalfFace, key: Pair, index: &mut EdgeIndex)
     requires room { 0 < length (held index.old).free }
-    requires found { (g : ℕ) → half_face_of pair_order key (held index.old).entries ≡ Some g → Half (plain_sealed ground.now).list g }
-    ensures offered { Offered pair_order (RatherHalf (plain_sealed ground.now).list) key h (held index.old).entries (held index.new).entries }
+    requires found { (g : ℕ) → half_face_of pair_order key (held index.old).entries ≡ Some g → Half (rows_of f) g }
+    ensures offered { Offered pair_order (RatherHalf (rows_of f.entry)) key f.entry.number (held index.old).entries (held index.new).entries }
     ensures room { length (held index.old).free ≤ length (held index.new).free + 1 }
 {
     let half_face = match index.find(key) {
-        None => h,
-        Some(held) => stands(side(ground, held), side(ground, h)).half_face,
+        None => f.number,
+        Some(number) => {
+            let ground = f.ground;
+            let held = HalfFace { ground, number };
+            stands(side(held), side(f)).half_face
+        }
     };
     index.put(Entry { key, half_face }).unwrap();
 }
 
-// Offers half-face h for its three edges.
-fn put_edges(ground: &Sealed, h: u16, index: &mut EdgeIndex)
-    requires lawful { LawfulRows (plain_sealed ground.now).list }
-    requires half { Half (plain_sealed ground.now).list h }
+// Offers the half-face for its three edges.
+fn put_edges(f: HalfFace, index: &mut EdgeIndex)
     requires room { 3 ≤ length (held index.old).free }
-    requires gathered { EdgesBefore (plain_sealed ground.now).list h (held index.old).entries }
-    ensures gathered { EdgesBefore (plain_sealed ground.now).list (h + 1) (held index.new).entries }
+    requires gathered { EdgesBefore (rows_of f) f.number (held index.old).entries }
+    ensures gathered { EdgesBefore (rows_of f.entry) (f.entry.number + 1) (held index.new).entries }
     ensures room { length (held index.old).free ≤ length (held index.new).free + 3 }
 {
-    let [a, b, c] = vertices(ground, h);
+    let [a, b, c] = f.reading();
     // three calls, since a list of the keys and a loop over it would be no shorter
-    put_edge(ground, h, rising_pair(a, b), index);
-    put_edge(ground, h, rising_pair(b, c), index);
-    put_edge(ground, h, rising_pair(a, c), index);
+    put_edge(f, rising_pair(a, b), index);
+    put_edge(f, rising_pair(b, c), index);
+    put_edge(f, rising_pair(a, c), index);
 }
 
 // The index of all edges, over free places. It differs from that of the triangles in what each half-face
@@ -55,10 +68,10 @@ fn gather_edges<'a>(ground: &Sealed, places: &'a mut [Entry<Pair>]) -> EdgeIndex
     ensures { EdgeEntries (plain_sealed ground.now).list (held result).entries }
 {
     let mut index = EdgeIndex::over(places);
-    // a half-face is its number: there is no list of them to go over
+    // half-faces go by number: there is no list of them to go over
     let half_faces = 4 * ground.counts().cells;
     for h in 0..half_faces {
-        put_edges(ground, h, &mut index);
+        put_edges(HalfFace { ground, number: h }, &mut index);
     }
     index
 }

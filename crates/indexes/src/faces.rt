@@ -1,33 +1,32 @@
 //! The face index: each triangle with its lowest half-face.
 ghost use Rattle.std.specs.Prelude.{◌+◌, ◌<◌, ◌≤◌, length};
-ghost use Rattle.rules.specs.Joins.{Half, LawfulRows};
 ghost use Rattle.ground.specs.Grounds.{plain_sealed};
+ghost use Rattle.halves.specs.HalfFaces.{rows_of};
 ghost use Rattle.index.specs.Held.{held};
 ghost use Rattle.indexes.specs.Lists.{Makes};
 ghost use Rattle.indexes.specs.Faces.{OnTriangle, FaceEntries};
 ghost use Rattle.indexes.specs.Gathered.{FacesBefore};
 
-use crate::halves::vertices;
 use crate::handing::hand_over;
 use crate::keys::rising_triple;
 use ground::Sealed;
+use halves::HalfFace;
 use index::{Entry, TriangleIndex, Triple};
 use refusal::Refusal;
 
-// Puts the triangle of half-face h, unless a lower half-face has it too.
-fn put_face(ground: &Sealed, h: u16, index: &mut TriangleIndex)
-    requires lawful { LawfulRows (plain_sealed ground.now).list }
-    requires half { Half (plain_sealed ground.now).list h }
+// Puts the triangle of the half-face, unless a lower half-face has it too.
+fn put_face(f: HalfFace, index: &mut TriangleIndex)
     requires room { 0 < length (held index.old).free }
-    requires gathered { FacesBefore (plain_sealed ground.now).list h (held index.old).entries }
-    ensures gathered { FacesBefore (plain_sealed ground.now).list (h + 1) (held index.new).entries }
+    requires gathered { FacesBefore (rows_of f) f.number (held index.old).entries }
+    ensures gathered { FacesBefore (rows_of f.entry) (f.entry.number + 1) (held index.new).entries }
     ensures room { length (held index.old).free ≤ length (held index.new).free + 1 }
-    ensures on { (k : Triple) × OnTriangle (plain_sealed ground.now).list k h }
+    ensures on { (k : Triple) × OnTriangle (rows_of f.entry) k f.entry.number }
 {
-    let [a, b, c] = vertices(ground, h);
+    let [a, b, c] = f.reading();
     let key = rising_triple(a, b, c);
     if index.find(key).is_none() {
-        index.put(Entry { key, half_face: h }).unwrap();
+        let half_face = f.number;
+        index.put(Entry { key, half_face }).unwrap();
     }
 }
 
@@ -37,10 +36,10 @@ fn gather_faces<'a>(ground: &Sealed, places: &'a mut [Entry<Triple>]) -> Triangl
     ensures { FaceEntries (plain_sealed ground.now).list (held result).entries }
 {
     let mut index = TriangleIndex::over(places);
-    // a half-face is its number: there is no list of them to go over
+    // half-faces go by number: there is no list of them to go over
     let half_faces = 4 * ground.counts().cells;
     for h in 0..half_faces {
-        put_face(ground, h, &mut index);
+        put_face(HalfFace { ground, number: h }, &mut index);
     }
     index
 }

@@ -3,7 +3,6 @@
 
 mod edges;
 mod faces;
-mod halves;
 mod handing;
 mod keys;
 mod rule;

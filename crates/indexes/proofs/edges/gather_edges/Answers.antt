@@ -6,11 +6,10 @@ use Rattle.indexes.specs.Gathered.{Before}
 use Rattle.index.proofs.Orders.{pair_total}
 use Rattle.indexes.proofs.Lookups.{one_each}
 use Rattle.indexes.proofs.Offers.{gathered_none, gathered_as}
-use Rattle.indexes.proofs.HalfFaces.{few_cells}
 use Rattle.indexes.proofs.edges.gather_edges.Goals as goal
 
 pub put_edges-requires-clause-room : goal.put_edges-requires-clause-room
-put_edges-requires-clause-room c = omega (arith, few_cells c.args.ground.now, c.loop-h.invariant.1)
+put_edges-requires-clause-room c = omega (arith, c.counts-half_faces.ensures.few, c.loop-h.invariant.1)
 
 pub loop-h-init : goal.loop-h-init
 loop-h-init c =

@@ -6,11 +6,10 @@ use Rattle.indexes.specs.Gathered.{Before}
 use Rattle.index.proofs.Orders.{triple_total}
 use Rattle.indexes.proofs.Lookups.{one_each}
 use Rattle.indexes.proofs.Offers.{gathered_none, gathered_as}
-use Rattle.indexes.proofs.HalfFaces.{few_cells}
 use Rattle.indexes.proofs.faces.gather_faces.Goals as goal
 
 pub put_face-requires-clause-room : goal.put_face-requires-clause-room
-put_face-requires-clause-room c = omega (arith, few_cells c.args.ground.now)
+put_face-requires-clause-room c = omega (arith, c.counts-half_faces.ensures.few)
 
 pub loop-h-preserved : goal.loop-h-preserved
 loop-h-preserved c = record {

@@ -1,6 +1,6 @@
 use Rattle.std.proofs.Common.{sym, ◌∙◌}
 use Rattle.rules.specs.Readings.{reads}
-use Rattle.ground.specs.Grounds.{plain_sealed}
+use Rattle.halves.specs.HalfFaces.{rows_of}
 use Rattle.index.specs.Held.{held, Stored}
 use Rattle.index.specs.Keys.{triple_order}
 use Rattle.indexes.specs.Faces.{OnTriangle}
@@ -15,15 +15,15 @@ pub unwrap-requires : goal.unwrap-requires
 unwrap-requires c = not_refused triple_order _ (held c.args.index.now) (held c.put.new.self) c.put.result c.requires.room c.put.ensures
 
 -- its triangle
-key : (c : After-rising_triple-key) → OnTriangle (plain_sealed c.args.ground.now).list c.rising_triple-key.result c.args.h
-key c = (c.requires.half, sorts_as (reads (plain_sealed c.args.ground.now).list c.args.h) c.vertices.result c.rising_triple-key.result c.vertices.ensures c.rising_triple-key.ensures)
+key : (c : After-rising_triple-key) → OnTriangle (rows_of c.args.f) c.rising_triple-key.result c.args.f.number
+key c = (c.args.f.present, sorts_as (reads (rows_of c.args.f) c.args.f.number) c.reading.result c.rising_triple-key.result c.reading.ensures c.rising_triple-key.ensures)
 
-put : (c : After-unwrap) → Stored triple_order (record { key = c.rising_triple-key.result; half_face = c.args.h }) (held c.args.index.now) (held c.put.new.self)
+put : (c : After-unwrap) → Stored triple_order (record { key = c.rising_triple-key.result; half_face = c.args.f.number }) (held c.args.index.now) (held c.put.new.self)
 put c = stored triple_order _ (held c.args.index.now) (held c.put.new.self) c.put.result c.unwrap.result c.unwrap.ensures c.put.ensures
 
 pub returns-then-is_none-clause-gathered : goal.returns-then-is_none-clause-gathered
 returns-then-is_none-clause-gathered c =
-    put_new (plain_sealed c.args.ground.now).list c.rising_triple-key.result c.args.h (key (goal.at.returns-then-is_none-clause-gathered c).After-rising_triple-key)
+    put_new (rows_of c.args.f) c.rising_triple-key.result c.args.f.number (key (goal.at.returns-then-is_none-clause-gathered c).After-rising_triple-key)
     (held c.args.index.now) (held c.put.new.self) c.requires.gathered (sym c.find.ensures ∙ none_from c.find.result c.if-is_none.ensures) (put (goal.at.returns-then-is_none-clause-gathered c).After-unwrap)
 
 pub returns-then-is_none-clause-room : goal.returns-then-is_none-clause-room
@@ -32,5 +32,5 @@ returns-then-is_none-clause-room c = room_left triple_total _ (held c.args.index
 pub returns-else-is_none-clause-gathered : goal.returns-else-is_none-clause-gathered
 returns-else-is_none-clause-gathered c =
     let x = some_from c.find.result c.if-is_none.ensures in
-    kept (plain_sealed c.args.ground.now).list c.rising_triple-key.result c.args.h (key (goal.at.returns-else-is_none-clause-gathered c).After-rising_triple-key)
+    kept (rows_of c.args.f) c.rising_triple-key.result c.args.f.number (key (goal.at.returns-else-is_none-clause-gathered c).After-rising_triple-key)
     (held c.args.index.now).entries c.requires.gathered x.0 (sym c.find.ensures ∙ x.1)
