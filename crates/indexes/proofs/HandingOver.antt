@@ -1,6 +1,6 @@
 -- Entries that rise, put one after another into an index that has none.
-use Rattle.std.proofs.Common.{◌≡◌, ℕ, ◌+◌, ◌-◌, ◌<◌, ◌≤◌, List, [], ◌∷◌, ◌++◌, length, get_or, take, drop, Ordering, sym, ap, ◌∙◌, subst, arith, length-drop}
-use Rattle.std.proofs.lemmas.List.{length-take-le, get_or-take, get_or_default, take_more, take_all, drop-drop}
+use Rattle.std.proofs.Common.{◌≡◌, ℕ, ◌+◌, ◌-◌, ◌<◌, ◌≤◌, List, [], ◌∷◌, ◌++◌, length, get_or, take, drop, Ordering, sym, ap, ◌∙◌, arith, length-drop}
+use Rattle.std.proofs.lemmas.List.{length-take-le, get_or-take, get_or_default, take_more, drop-drop}
 use Rattle.index.specs.declared.entry.Entry.{Entry}
 use Rattle.index.proofs.Orders.{TotalOrder}
 use Rattle.index.specs.Entries.{Rising, put_in}
@@ -39,8 +39,3 @@ module _ {K : Type 0} {order : K → K → Ordering} (total : TotalOrder order) 
     where
       same : (j : ℕ) (d : Entry K) → j < i → get_or es j d ≡ get_or es j e
       same j d m = get_or_default es j d e (omega arith)
-
--- all of them
-pub handed_all : {K : Type 0} (es places : List (Entry K)) (n : ℕ) (h : Held K) → n ≡ length es → Handed es places n h → h ≡ record { entries = es; free = drop (length es) places }
-handed_all es places n h e a =
-    subst (λ (m : ℕ). Handed es places m h) e a ∙ ap (λ (z : List (Entry _)). record { entries = z; free = drop (length es) places }) (take_all (length es) es (omega arith))

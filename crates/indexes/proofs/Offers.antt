@@ -1,5 +1,5 @@
 -- What an index holds after a half-face was offered for a key.
-use Rattle.std.proofs.Common.{◌≡◌, ℕ, ◌+◌, ◌-◌, ◌<◌, ◌≤◌, ◌⊎◌, List, [], length, Some, None, Ok, Err, Option, Result, Ordering, sym, refl, ap, ◌∙◌, subst, inl, inr, ⊎_elim, arith, rules, length-drop}
+use Rattle.std.proofs.Common.{◌≡◌, ℕ, ◌+◌, ◌-◌, ◌<◌, ◌≤◌, ◌⊎◌, List, length, Some, None, Ok, Err, Option, Result, Ordering, sym, refl, ap, ◌∙◌, subst, inl, inr, ⊎_elim, arith, rules, length-drop}
 use Rattle.std.specs.Result.{IsOk}
 use Rattle.refusal.specs.declared.Refusal.{Refusal}
 use Rattle.index.specs.declared.entry.Entry.{Entry}
@@ -62,10 +62,3 @@ module _ {K : Type 0} {order : K → K → Ordering} (total : TotalOrder order) 
 
     pub gathered_as : (es : List (Entry K)) → Gathered Has Rather order es → Gathered Had Rather order es
     gathered_as es a k = renamed k (half_face_of order k es) (a k)
-
-  -- an index without entries, where no half-face has a key yet
-  pub gathered_none : (Has : K → ℕ → Type 0) (Rather : ℕ → ℕ → Type 0) (es : List (Entry K)) → es ≡ [] → ((k : K) (g : ℕ) → Has k g → ⊥) → Gathered Has Rather order es
-  gathered_none Has Rather es e n k = subst (λ (z : List (Entry K)). Finds Has Rather k (half_face_of order k z)) (sym e) (n k)
-
-  pub put_offered : {Rather : ℕ → ℕ → Type 0} (k : K) (h r : ℕ) (before after : Held K) → Stored order (record { key = k; half_face = r }) before after → Chosen Rather (half_face_of order k before.entries) h r → Offered order Rather k h before.entries after.entries
-  put_offered k h r before after s c = record { chosen = r; right = c; found = s.put; others = s.others }

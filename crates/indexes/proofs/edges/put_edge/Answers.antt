@@ -5,7 +5,7 @@ use Rattle.index.specs.Keys.{pair_order}
 use Rattle.indexes.specs.Edges.{RatherHalf}
 use Rattle.indexes.specs.Gathered.{Chosen}
 use Rattle.index.proofs.Orders.{pair_total}
-use Rattle.indexes.proofs.Offers.{not_refused, stored, room_left, put_offered}
+use Rattle.indexes.proofs.Offers.{not_refused, stored, room_left}
 use Rattle.indexes.proofs.EdgePairs.{chosen_side}
 use Rattle.indexes.proofs.edges.put_edge.Goals as goal
 use Rattle.indexes.proofs.edges.put_edge.Goals.{in-None, in-Some}
@@ -28,7 +28,11 @@ returns c =
           w.side.ensures.same w.side.ensures.skin w.side-in-Some.ensures.same w.side-in-Some.ensures.skin w.stands.ensures))
     ] in
     record {
-      offered = put_offered pair_total c.args.key c.args.f.number c.match-find.half_face before after s
-          (subst (λ (o : Option ℕ). Chosen (RatherHalf rs) o c.args.f.number c.match-find.half_face) c.find.ensures found);
+      offered = record {
+        chosen = c.match-find.half_face;
+        right = subst (λ (o : Option ℕ). Chosen (RatherHalf rs) o c.args.f.number c.match-find.half_face) c.find.ensures found;
+        found = s.put;
+        others = s.others;
+      };
       room = room_left pair_total _ before after s;
     }

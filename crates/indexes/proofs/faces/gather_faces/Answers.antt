@@ -1,15 +1,12 @@
-use Rattle.std.proofs.Common.{◌≤◌, length, ap, arith, below_more}
+use Rattle.std.proofs.Common.{◌≤◌, arith, below_more}
 use Rattle.ground.specs.Grounds.{plain_sealed}
-use Rattle.index.specs.Held.{Held, held}
+use Rattle.index.specs.Held.{held}
 use Rattle.indexes.specs.Faces.{OnTriangle}
 use Rattle.indexes.specs.Gathered.{Before}
 use Rattle.index.proofs.Orders.{triple_total}
 use Rattle.indexes.proofs.Lookups.{one_each}
-use Rattle.indexes.proofs.Offers.{gathered_none, gathered_as}
+use Rattle.indexes.proofs.Offers.{gathered_as}
 use Rattle.indexes.proofs.faces.gather_faces.Goals as goal
-
-pub put_face-requires-clause-room : goal.put_face-requires-clause-room
-put_face-requires-clause-room c = omega (arith, c.counts-half_faces.ensures.few)
 
 pub loop-h-preserved : goal.loop-h-preserved
 loop-h-preserved c = record {
@@ -17,16 +14,6 @@ loop-h-preserved c = record {
   room = omega (arith, c.put_face.ensures.room);
   each = below_more _ _ c.loop-h.invariant.each c.put_face.ensures.on;
 }
-
-pub loop-h-init : goal.loop-h-init
-loop-h-init c =
-    let rs = (plain_sealed c.args.ground.now).list in
-    let e = c.over-index.ensures in
-    record {
-      gathered = gathered_none triple_total (Before (OnTriangle rs) 0) (λ x g. x ≤ g) (held c.over-index.result).entries (ap (λ (h : Held _). h.entries) e) (λ k g p. let l = p.1 in omega arith);
-      room = omega (arith, c.requires, ap (λ (h : Held _). length h.free) e);
-      each = λ g l. absurd (omega arith);
-    }
 
 pub returns : goal.returns
 returns c =

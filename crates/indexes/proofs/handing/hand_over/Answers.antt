@@ -1,16 +1,13 @@
-use Rattle.std.proofs.Common.{refl, arith}
+use Rattle.std.proofs.Common.{arith}
 use Rattle.index.specs.Held.{held}
 use Rattle.index.proofs.Orders.{TotalOrder}
-use Rattle.indexes.proofs.HandingOver.{room, one_more, handed_all}
+use Rattle.indexes.proofs.HandingOver.{room, one_more}
 use Rattle.indexes.proofs.Offers.{not_refused, stored}
 use Rattle.indexes.proofs.handing.hand_over.Given.{Over}
 use Rattle.indexes.proofs.handing.hand_over.Goals as goal
 
 total : (g : Over) → TotalOrder g.K.Ord.cmp
 total g = record { laws = g.met.K.Ord.total; equal_only = g.met.K.Key.identical }
-
-pub loop-entry-init : goal.loop-entry-init
-loop-entry-init g c = c.over-index.ensures
 
 pub unwrap-requires : goal.unwrap-requires
 unwrap-requires g c =
@@ -23,10 +20,3 @@ loop-entry-preserved g c =
     one_more (total g) c.args.entries.now c.args.places.now c.requires c.loop-entry.entry-index (omega arith) (omega arith)
     c.entry-item.result (held c.loop-entry.index) (held c.put.new.self) c.entry-item.is c.loop-entry.invariant
     (stored g.K.Ord.cmp c.entry-item.result (held c.loop-entry.index) (held c.put.new.self) c.put.result c.unwrap.result c.unwrap.ensures c.put.ensures)
-
-pub returns : goal.returns
-returns g c = (
-  refl,
-  omega arith,
-  handed_all c.args.entries.now c.args.places.now c.loop-entry.entry-index (held c.loop-entry.index) (omega arith) c.loop-entry.invariant,
-)
