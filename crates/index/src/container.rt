@@ -12,6 +12,7 @@ use refusal::Refusal;
 // The places are handed over and nothing is allocated, so how many are in use stands beside them.
 #[derive(Drop)]
 pub struct Index<'a, K: Key> {
+    // a caller's list and a count, since nothing here allocates
     places: &'a mut [Entry<K>],
     taken: usize,
     ghost within: { taken ≤ length places.now },
