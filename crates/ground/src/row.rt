@@ -26,7 +26,7 @@ pub(crate) fn has(row: [u16; 4], i: usize, v: u16) -> bool
     row.iter().enumerate().any(|(k, &w)| k != i && w == v)
 }
 
-// What half-face i of the row reads: a table, since places of a constant to read from would have to be looked up again.
+// What half-face i of the row reads: written out, since to index a table of places would be no shorter.
 pub(crate) fn read(row: [u16; 4], i: usize) -> [u16; 3]
     requires { i < 4 }
     ensures { result ≡ listed (face row i) }
