@@ -9,7 +9,6 @@ use crate::keys::{Pair, Triple};
 use refusal::Refusal;
 
 /// Entries that rise by key, in the first places of a borrowed list.
-// The places are handed over and nothing is allocated, so how many are in use stands beside them.
 #[derive(Drop)]
 pub struct Index<'a, K: Key> {
     // a caller's list and a count, since nothing here allocates
