@@ -92,7 +92,8 @@ pub fn edge_index<'p>(
         },
         half_face: 0,
     };
-    // Each half-face puts three entries at most, and a ground has 4,096 of them at most.
+    // Each half-face puts three entries at most, and a ground has 4,096 of them at most; the libraries
+    // allocate nothing.
     let mut own = [free; 12288];
     let gathered = gather_edges(ground, &mut own);
     hand_over(gathered.entries(), places)

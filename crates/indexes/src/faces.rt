@@ -61,7 +61,8 @@ pub fn face_index<'p>(
         },
         half_face: 0,
     };
-    // Each half-face puts one entry at most, and a ground has 4,096 of them at most.
+    // Each half-face puts one entry at most, and a ground has 4,096 of them at most; the libraries
+    // allocate nothing.
     let mut own = [free; 4096];
     let gathered = gather_faces(ground, &mut own);
     hand_over(gathered.entries(), places)

@@ -17,6 +17,7 @@ pub(crate) fn find_face(ground: &Sealed, key: Triple, places: usize) -> Result<O
     requires { places ≤ 4096 }
     ensures { TellsFound (FaceEntries (plain_sealed ground.now).list) triple_order key places result }
 {
+    // room for any ground, since the libraries allocate nothing
     let mut own = [Entry { key, half_face: 0 }; 4096];
     let (index, answer) = face_index(ground, &mut own[..places]);
     answer?;
@@ -28,6 +29,7 @@ pub(crate) fn find_edge(ground: &Sealed, key: Pair, places: usize) -> Result<Opt
     requires { places ≤ 12288 }
     ensures { TellsFound (EdgeEntries (plain_sealed ground.now).list) pair_order key places result }
 {
+    // room for any ground, since the libraries allocate nothing
     let mut own = [Entry { key, half_face: 0 }; 12288];
     let (index, answer) = edge_index(ground, &mut own[..places]);
     answer?;

@@ -35,6 +35,7 @@ pub fn edge_sound(ground: &Sealed, v: u16, w: u16) -> Result<bool, Refusal>
 {
     // With its counts a ground tells that its cells are few, so that the list is long enough.
     let _ = ground.counts();
+    // room for any ground, since the libraries allocate nothing
     let mut cells = [0; 1024];
     let size = ground.edge_star(v, w, &mut cells)?;
     if size == 0 {

@@ -43,6 +43,7 @@ fn lay(ground: &mut Open, corners: [u16; 4], line: &mut [u8]) -> Result<usize, R
 fn orient(ground: &mut Open, line: &mut [u8]) -> Result<usize, Refusal>
     ensures { Said Orient (plain ground.old) (plain ground.new) line.old line.new result }
 {
+    // room for any ground, since the libraries allocate nothing
     let mut labels = [Turn::Straight; 1024];
     let mut marks = [0; 1024];
     let turned = ground.orient(&mut labels, &mut marks).map(
@@ -58,6 +59,7 @@ fn orient(ground: &mut Open, line: &mut [u8]) -> Result<usize, Refusal>
 fn cells_at_vertex(ground: &Sealed, v: u16, line: &mut [u8]) -> Result<usize, Refusal>
     ensures { Said (CellsAtVertex v) (plain_sealed ground.now) (plain_sealed ground.now) line.old line.new result }
 {
+    // room for any ground, since the libraries allocate nothing
     let mut cells = [0; 1024];
     say(ground.star(v, &mut cells).map(|n| &cells[..n]), line)
 }
@@ -67,6 +69,7 @@ fn cells_at_vertex(ground: &Sealed, v: u16, line: &mut [u8]) -> Result<usize, Re
 fn cells_at_edge(ground: &Sealed, v: u16, w: u16, line: &mut [u8]) -> Result<usize, Refusal>
     ensures { Said (CellsAtEdge v w) (plain_sealed ground.now) (plain_sealed ground.now) line.old line.new result }
 {
+    // room for any ground, since the libraries allocate nothing
     let mut cells = [0; 1024];
     say(
         ground.edge_star(v, w, &mut cells).map(|n| &cells[..n]),

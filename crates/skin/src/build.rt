@@ -85,6 +85,7 @@ fn all_sides(ground: &Sealed, triangles: &[u16], items: &[u16]) -> [Side; 12288]
 pub fn skin_net(ground: &Sealed) -> SkinNet
     ensures { SkinWeb (plain_sealed ground.now).list (skin_net_web result) }
 {
+    // room for any ground, since the libraries allocate nothing
     let mut list = [0; 4096];
     let count = skin_triangles(ground, &mut list);
     let triangles = &list[..count];
