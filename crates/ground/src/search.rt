@@ -37,7 +37,7 @@ fn pick(before: Option<u16>, x: [u16; 4], i: usize, y: [u16; 4], h: u16) -> Opti
 fn shared(x: [u16; 4], y: [u16; 4]) -> usize
     ensures { result ≡ count_by (λ v. on y 4 v) x }
 {
-    x.iter().filter(|&&v| has(y, 4, v)).count()
+    x.iter().filter(|&v| y.contains(v)).count()
 }
 
 // What the row, the first half-face of which is h, adds to what was found; nothing if it has the same four vertices.
