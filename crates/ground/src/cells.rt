@@ -104,6 +104,7 @@ impl<'a> Cells<'a> {
         ensures many { TurnedMany (rows_of self.old) labels.now result }
     {
         let mut turned = 0;
+        // counted on the way, since each turn writes the cells
         for (t, label) in labels[..self.count].iter().enumerate() {
             if *label == Turn::Turned {
                 self.turn(t);
