@@ -43,7 +43,7 @@ impl<N: Net> CountedNet<'_, N> {
     }
 }
 
-/// Makes the labels below `count` neutral.
+/// Makes the labels below `count` neutral. Apart from `clear`, which is over bytes: one line each.
 fn blank<L: Label + Copy>(labels: &mut [L], count: usize)
     requires { count ≤ length labels.old }
     ensures neutral { (i : ℕ) → i < count → slice_index (map L.meaning labels.new) i ≡ L.kind.neutral }

@@ -33,6 +33,7 @@ pub trait Net {
         ensures sound { Sound (web self.now) Self.Label.Label.kind }
         ensures meant { StepsMeant (web self.now) Self.Label.Label.meaning };
 
+    // An item and a side and no `Place`, here and below: who asks goes over the sides of an item.
     /// The side that a side is joined to. An open side has none, nor has one out of range.
     fn join(&self, item: usize, side: usize) -> Option<Place>
         ensures { result ≡ (web self.now).joins item side };

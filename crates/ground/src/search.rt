@@ -9,7 +9,8 @@ use crate::row::has;
 use refusal::Refusal;
 use std::array;
 
-// Whether each vertex of triangle i of x is on triangle j of y (at 4: the whole row).
+// Whether each vertex of triangle i of x is on triangle j of y (at 4: the whole row). Rows in pairs,
+// here and below, are no struct: nothing holds of the two together.
 fn lies_on(x: [u16; 4], i: usize, y: [u16; 4], j: usize) -> bool
     ensures { result ≡ within x i y j }
 {

@@ -12,7 +12,8 @@ use ground::Sealed;
 use refusal::Refusal;
 
 // Whether the cells that have v and w, of which there are `size`, reach one another across triangles
-// that hold both. Each cell outside the star is a piece by itself.
+// that hold both. Each cell outside the star is a piece by itself. The two are no `Edge`, since at v = w
+// they are one vertex.
 pub(crate) fn linked(ground: &Sealed, v: u16, w: u16, size: usize) -> bool
     requires { Many (AtEdge (plain_sealed ground.now).list v w) size }
     ensures { (result ≡ true) ↔ Linked (plain_sealed ground.now).list v w }

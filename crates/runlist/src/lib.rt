@@ -26,7 +26,7 @@ fn say<A: AsSlice<u16> + Drop>(
     }
 }
 
-// Lays a cell.
+// Lays a cell. The ground and the line are the caller's, handed over apart.
 fn lay(ground: &mut Open, corners: [u16; 4], line: &mut [u8]) -> Result<usize, Refusal>
     ensures { Said (Lay (slice_index corners 0) (slice_index corners 1) (slice_index corners 2) (slice_index corners 3)) (plain ground.old) (plain ground.new) line.old line.new result }
 {

@@ -41,7 +41,8 @@ fn item_numbers(triangles: &[u16]) -> [u16; 4096]
     items
 }
 
-// Where side k leads: edge place k % 3 of skin triangle k / 3.
+// Where side k leads: edge place k % 3 of skin triangle k / 3. The lists are no struct: what holds of the
+// triangles finds an index, and no ghost field takes that.
 fn side(ground: &Sealed, triangles: &[u16], items: &[u16], k: usize) -> Side
     requires skin { SkinOf (plain_sealed ground.now).list triangles.now }
     requires items { Numbered triangles.now items.now }
