@@ -8,11 +8,6 @@ use Rattle.mates.proofs.Steps.{reads_apart}
 use Rattle.mates.proofs.Returning.{mate_spans}
 use Rattle.mates.proofs.mating.mate_at.Goals as goal
 
-pub walk-there-requires-clause-has : goal.walk-there-requires-clause-has
-walk-there-requires-clause-has c =
-    let here = c.args.here in let edge = c.edge-edge.result in
-    runs_spans (reads (rows_of here) here.number) c.args.place.number edge.from edge.to (reads_apart (rows_of here) here.lawful here.number here.present) c.edge-edge.ensures
-
 pub place_of-requires : goal.place_of-requires
 place_of-requires c =
     let here = c.args.here in let edge = c.edge-edge.result in let there = c.walk-there.result in

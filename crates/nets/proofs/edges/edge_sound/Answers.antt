@@ -24,11 +24,6 @@ returns-then-size-eq0 c =
     edge_nowhere rs v w (length (replicate {A = ℕ} 1024 0)) room h.0
     (subst (Many (AtEdge rs v w)) c.if-size-eq0.true (filled_many (AtEdge rs v w) c.in_ok-size.size (replicate 1024 0) c.edge_star.new.out h.1))
 
-pub linked-requires : goal.linked-requires
-linked-requires c =
-    let rs = (plain_sealed c.args.ground.now).list in
-    filled_many (AtEdge rs c.args.v c.args.w) c.in_ok-size.size (replicate 1024 0) c.edge_star.new.out c.in_ok-size.ensures.1
-
 pub returns : goal.returns
 returns c =
     let rs = (plain_sealed c.args.ground.now).list in

@@ -1,4 +1,4 @@
-use Rattle.std.proofs.Common.{◌≡◌, ℕ, ◌+◌, ◌*◌, ◌/◌, ◌<◌, List, [], get_or, sym, refl, ap, ◌∙◌, subst, ⊎_elim, arith}
+use Rattle.std.proofs.Common.{◌≡◌, ℕ, ◌+◌, ◌*◌, ◌/◌, ◌<◌, List, [], get_or, sym, ap, ◌∙◌, subst, ⊎_elim, arith}
 use Rattle.std.proofs.lemmas.Bool.{cases_eq, false≢true, both_ways}
 use denote.Ref.{Bor}
 use Rattle.ground.specs.declared.stage.Sealed.{Sealed}
@@ -38,6 +38,3 @@ returns-then-not-no_unsound_edge c =
       (λ q. absurd (false≢true q)),
       (λ f. absurd (both_ways c.no_unsound_edge.result c.if-not-no_unsound_edge.true (c.no_unsound_edge.ensures.1 (subst P (sym z) (f i c.loop-w-test.true))))),
     )
-
-pub returns : goal.returns
-returns c = ((λ q i l. c.loop-w.invariant i (let all = c.loop-w-test.false in omega arith)), (λ f. refl))

@@ -5,7 +5,7 @@ use Rattle.rules.specs.Rows.{row}
 use Rattle.rules.specs.PlainList.{LayCause}
 use Rattle.rules.proofs.Causes.{first_high, first_equal, first_full, first_present, first_taken, no_cause}
 use Rattle.rules.proofs.Corners.{vertices_to}
-use Rattle.rules.proofs.Judged.{high_so, repeat_so, not_high, not_repeated, fine_so}
+use Rattle.rules.proofs.Judged.{high_so, repeat_so, not_high, not_repeated}
 use Rattle.ground.specs.declared.stage.Open.{Open}
 use Rattle.ground.specs.Grounds.{plain}
 use Rattle.ground.specs.Searches.{Partners}
@@ -54,17 +54,6 @@ returns-in_err-joins-clause-lays c =
           q,
       refl,
     )
-
-pub append-requires : goal.append-requires
-append-requires c =
-    let g = c.args.self.now in
-    let x = row c.args.a c.args.b c.args.c c.args.d in
-    let q = subst (λ (z : List (List ℕ)). Partners z x (Ok c.in_ok-joins.joins)) (seen c.joined.result g.cells c.joined.ensures.records c.joined.ensures.many) c.in_ok-joins.ensures in
-    record {
-      room = c.if-count-self.false;
-      fine = fine_so x (sym c.too_high.ensures ∙ c.if-too_high.false) (sym c.repeated.ensures ∙ c.if-repeated.false);
-      met = q.0;
-    }
 
 pub returns-clause-lays : goal.returns-clause-lays
 returns-clause-lays c =
