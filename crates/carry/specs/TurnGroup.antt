@@ -1,7 +1,5 @@
--- By meaning, turns are a group, and equal turns are those of one meaning: each law by its cases.
-use Rattle.std.proofs.Common.{◌≡◌, ◌+◌, ◌%◌, true, ◌↔◌, refl}
-use denote.Enum.Bare.{sameb}
-use Rattle.carry.specs.contracts.turn.Turn.{the_type}
+-- By meaning, turns are a group: each law by its cases.
+use Rattle.std.proofs.Common.{◌≡◌, ◌+◌, ◌%◌, refl}
 use Rattle.carry.specs.declared.turn.Turn.{Turn}
 use Rattle.carry.specs.declared.turn.Turn.TheVariants.{Straight, Turned}
 use Rattle.carry.specs.Kinds.{Group}
@@ -46,9 +44,3 @@ turn_group = record {
   combined_meant = sum;
   inverse_meant = λ a. (a, refl);
 }
-
-pub turn_equal : (a b : Turn) → (sameb the_type a b ≡ true) ↔ (turn_meaning a ≡ turn_meaning b)
-turn_equal Straight Straight = ((λ _. refl), (λ _. refl))
-turn_equal Straight Turned = ((λ e. cc), (λ e. cc))
-turn_equal Turned Straight = ((λ e. cc), (λ e. cc))
-turn_equal Turned Turned = ((λ _. refl), (λ _. refl))

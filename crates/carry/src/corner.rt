@@ -78,11 +78,9 @@ impl Label for Corner {
 
     ghost kind = { corner_kind };
 
-    ghost use Rattle.carry.specs.CornerGroup.{corner_group, corner_equal};
+    ghost use Rattle.carry.specs.CornerGroup.{corner_group};
 
     ghost group = { corner_group };
-
-    ghost equal = { corner_equal };
 
     #[tactic(auto, unfolding(crate::specs::Digits::different))]
     fn neutral() -> Corner {
@@ -111,5 +109,10 @@ impl Label for Corner {
             c: self.place_of(2),
             d: self.place_of(3),
         }
+    }
+
+    #[tactic(auto, using(crate::specs::CornerGroup::corner_equal))]
+    fn same(self, other: Corner) -> bool {
+        self == other
     }
 }

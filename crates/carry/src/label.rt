@@ -1,10 +1,9 @@
 //! A kind of label, which is what is carried from item to item.
-ghost use Rattle.std.specs.Prelude.{◌≡◌, ℕ, true, ◌↔◌};
+ghost use Rattle.std.specs.Prelude.{◌≡◌, ℕ, true};
 ghost use Rattle.carry.specs.Kinds.{Kind, Group};
 
-/// A kind of label. Labels of one meaning count as one: `==` compares what they mean, and by meaning
-/// the labels are a group.
-pub trait Label: PartialEq + Sized + Drop {
+/// A kind of label. Labels of one meaning count as one, and by meaning the labels are a group.
+pub trait Label: Sized {
     /// What a label means.
     ghost meaning: { Self → ℕ };
 
@@ -26,12 +25,7 @@ pub trait Label: PartialEq + Sized + Drop {
     /// Whether the two mean the same.
     fn same(self, other: Self) -> bool
         ensures only { result ≡ true → meaning self ≡ meaning other }
-        ensures all { meaning self ≡ meaning other → result ≡ true }
-    {
-        self == other
-    }
+        ensures all { meaning self ≡ meaning other → result ≡ true };
 
     ghost group: { Group meaning kind };
-
-    ghost equal: { (a b : Self) → (Self.eq a b ≡ true) ↔ (meaning a ≡ meaning b) };
 }

@@ -1,6 +1,6 @@
 //! The turn: the label of what may be turned round, 0 or 1.
 ghost use Rattle.carry.specs.Turns.{turn_meaning, turn_kind};
-ghost use Rattle.carry.specs.TurnGroup.{turn_group, turn_equal};
+ghost use Rattle.carry.specs.TurnGroup.{turn_group};
 
 use crate::label::Label;
 
@@ -18,8 +18,6 @@ impl Label for Turn {
 
     ghost group = { turn_group };
 
-    ghost equal = { turn_equal };
-
     fn neutral() -> Turn {
         Turn::Straight
     }
@@ -34,5 +32,9 @@ impl Label for Turn {
 
     fn invert(self) -> Turn {
         self // each turn is its own inverse
+    }
+
+    fn same(self, other: Turn) -> bool {
+        self == other
     }
 }

@@ -18,10 +18,10 @@ pub struct Index<'a, K: Key> {
     ghost rising: { Rising K.cmp (take taken places.now) },
 }
 
-/// The index whose keys are vertex triples.
+/// The index whose keys are vertex triples. Their order, which is derived, is `triple_order`.
 pub type TriangleIndex<'a> = Index<'a, Triple>;
 
-/// The index whose keys are vertex pairs.
+/// The index whose keys are vertex pairs. Their order, which is derived, is `pair_order`.
 pub type EdgeIndex<'a> = Index<'a, Pair>;
 
 impl<'a, K: Key> Index<'a, K> {

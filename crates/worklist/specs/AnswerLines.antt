@@ -1,5 +1,5 @@
 -- The bytes of an answer's line, and what writing them into a line handed over does.
-use Rattle.std.specs.Prelude.{◌≡◌, ℕ, ◌<◌, List, [], ◌∷◌, ◌++◌, length, drop, codes, Result}
+use Rattle.std.specs.Prelude.{◌≡◌, ℕ, ◌<◌, List, [], ◌∷◌, ◌++◌, length, drop, codes, Result, refl}
 use Rattle.refusal.specs.declared.Refusal.{Refusal}
 use Rattle.refusal.specs.declared.Refusal.TheVariants.{ListTooShort}
 use Rattle.refusal.specs.Numbers.{number_of}
@@ -22,6 +22,12 @@ abbrev pub bytes_of : Answer → List ℕ
 bytes_of (Ok ns) = said (codes "ok") ns.now
 bytes_of (No c) = said (codes "no") (number_of c ∷ [])
 bytes_of (Bad f) = said (codes "bad") (number_of f.refusal ∷ f.line ∷ [])
+
+-- the line is what the answer says, and byte 10
+pub line_shown : (a : Answer) → bytes_of a ≡ shown a ++ (10 ∷ [])
+line_shown (Ok ns) = refl
+line_shown (No c) = refl
+line_shown (Bad f) = refl
 
 -- the one cause that refuses to write bytes into a line
 pub data LineCause (bytes line : List ℕ) : Refusal → Type 0 where
