@@ -5,9 +5,6 @@ use Rattle.skin.specs.Sides.{blank}
 use Rattle.skin.specs.Pairing.{Leads}
 use Rattle.skin.proofs.build.all_sides.Goals as goal
 
-pub returns : goal.returns
-returns c = λ k l. c.loop-k.invariant.1 k (let e = c.loop-k-test.false in omega arith)
-
 pub loop-k-preserved : goal.loop-k-preserved
 loop-k-preserved c =
     let rs = (plain_sealed c.args.ground.now).list in let ks = c.args.triangles.now in

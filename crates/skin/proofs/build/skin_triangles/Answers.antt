@@ -3,13 +3,6 @@ use Rattle.ground.specs.Grounds.{plain_sealed}
 use Rattle.skin.proofs.Rising.{skin_fits}
 use Rattle.skin.proofs.build.skin_triangles.Goals as goal
 
-pub returns : goal.returns
-returns c =
-    let filled = c.in-Ok.ensures.1 in
-    let few = c.counts.ensures.few in
-    let cells = c.counts.ensures.counted.cells in
-    record { fits = filled.fits; skin = record { few = omega arith; listing = filled.first } }
-
 pub unreachable-requires : goal.unreachable-requires
 unreachable-requires c =
     let few = c.counts.ensures.few in
