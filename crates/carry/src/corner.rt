@@ -35,6 +35,7 @@ impl Corner {
         None
     }
 
+    // No `From` beside this or the next: it would say the same twice.
     /// The four digits.
     #[tactic(auto, using(crate::specs::FourDigits::own_digits))]
     pub fn digits(self) -> [u8; 4]
@@ -60,7 +61,7 @@ impl Corner {
         self.digits()[k as usize]
     }
 
-    // The place of the digit k.
+    // The place of the digit k; the last, as the definition has it, where the digit is not there.
     fn place_of(self, k: u8) -> u8
         ensures { result ≡ place (corner_meaning self) k }
     {

@@ -5,7 +5,7 @@ ghost use Rattle.carry.specs.Webs.{Sound};
 
 use crate::net::Net;
 
-/// A net with the number of its items.
+/// A net with the number of its items. That an item is below it, and that lists are long enough, each method says of its own.
 #[derive(Drop)]
 pub(crate) struct CountedNet<'n, N: Net> {
     pub(crate) net: &'n N,

@@ -22,6 +22,7 @@ pub trait Label: Sized {
     fn invert(self) -> Self
         ensures { meaning result ≡ kind.inverse (meaning self) };
 
+    // Not `==`, which would ask more of whoever has labels of another kind.
     /// Whether the two mean the same.
     fn same(self, other: Self) -> bool
         ensures only { result ≡ true → meaning self ≡ meaning other }

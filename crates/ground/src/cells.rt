@@ -62,7 +62,7 @@ impl<'a> Cells<'a> {
         carry(&self.turn_net(), labels, marks)
     }
 
-    // One more cell, with its joins found already.
+    // One more cell, with its joins found already. Not yet a `Cell`: its joins are another call's answer.
     pub(crate) fn append(&mut self, corners: [u16; 4], joins: [Option<u16>; 4])
         requires room { self.old.count < length self.old.records.now }
         requires fine { Fine corners }

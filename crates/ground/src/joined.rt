@@ -7,6 +7,7 @@ use crate::row::read;
 use carry::Place;
 
 /// The cells of a ground, borrowed for reading, with what holds of their joins.
+// All places and the count of those in use: its facts are those of `Cells`, word for word.
 #[derive(Clone, Copy)]
 pub struct Joined<'c> {
     pub(crate) records: &'c [Cell],
@@ -35,7 +36,8 @@ impl<'c> Joined<'c> {
         self.records.get(h / 4)?.joins[h % 4]
     }
 
-    // The half-face that half-face `side` of the cell `item` is joined to; out of range, none.
+    // The half-face that half-face `side` of the cell `item` is joined to; out of range, none. An item and a
+    // side, here and below, as nets are asked.
     pub(crate) fn partner(&self, item: usize, side: usize) -> Option<u16>
         ensures { result ≡ partner (joined_rows self.now) item side }
     {

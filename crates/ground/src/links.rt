@@ -1,4 +1,5 @@
-//! Writes of records: each keeps the joins of the neighbours in step.
+//! Writes of records: each keeps the joins of the neighbours in step. The slice and a cell's number are no struct, since what
+//! holds of a ground is broken while its links are written; each write says in a word, `Linked`, what it rests on.
 ghost use Rattle.std.specs.Prelude.{◌≡◌, ◌<◌, ◌≤◌, length};
 ghost use Rattle.ground.specs.Records.{relinked, Near, relinked_all, AllNear, faces_of, nones, freed, moved_cells, turned_cells, laid_cells, lifted_cells, Linked};
 

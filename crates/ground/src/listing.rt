@@ -68,6 +68,7 @@ impl Joined<'_> {
         ensures { result ≡ has_both self.now.records.now v w t }
     {
         let row = self.records[t].corners;
+        // not by `contains`: of an array inside a list's element a proof does not know how long it is
         has(row, 4, v) && has(row, 4, w)
     }
 

@@ -19,7 +19,7 @@ pub(crate) fn repeated(corners: [u16; 4]) -> bool
     a == b || a == c || a == d || b == c || b == d || c == d
 }
 
-// Whether v is a vertex of the row other than its corner i (at i = 4: any vertex).
+// Whether v is a vertex of the row other than its corner i (at i = 4, as the definition has it: any vertex).
 pub(crate) fn has(row: [u16; 4], i: usize, v: u16) -> bool
     ensures { result ≡ on row i v }
 {

@@ -9,8 +9,8 @@ use crate::row::has;
 use refusal::Refusal;
 use std::array;
 
-// Whether each vertex of triangle i of x is on triangle j of y (at 4: the whole row). Rows in pairs,
-// here and below, are no struct: nothing holds of the two together.
+// Whether each vertex of triangle i of x is on triangle j of y (at 4: the whole row, as the definitions have
+// it). Two rows, each with a corner, are no struct, here and below: nothing holds of them together.
 fn lies_on(x: [u16; 4], i: usize, y: [u16; 4], j: usize) -> bool
     ensures { result ≡ within x i y j }
 {

@@ -20,6 +20,7 @@ impl Edge {
 }
 
 /// The place of an edge in a reading p q r: 0, 1 and 2 are p q, q r and r p.
+// A number and no enum, since callers hand it over and are answered it as one.
 #[derive(Clone, Copy)]
 pub struct EdgePlace {
     pub number: u16,

@@ -18,7 +18,7 @@ use halves::HalfFace;
 use index::{EdgeIndex, Entry, Pair};
 use refusal::Refusal;
 
-// A half-face, and whether it is open.
+// A half-face, and whether it is open. No `From`, since nobody else asks for it.
 fn side(f: HalfFace) -> Side
     ensures same { result.half_face ≡ f.entry.number }
     ensures skin { IsTrue result.is_open ↔ OnSkin (rows_of f.entry) f.entry.number }

@@ -17,7 +17,8 @@ impl Part {
     }
 }
 
-// Carries labels over the net, in parts of the two lists.
+// Carries labels over the net, in parts of the two lists. A list is lent apart from the part of it: the
+// lists are a desk's, and the parts a call's.
 pub(crate) fn carry_over<N: Net>(
     net: &N,
     labels: &mut [N::Label],

@@ -88,6 +88,7 @@ fn counts(ground: &Sealed, line: &mut [u8]) -> Result<usize, Refusal>
 /// Carries out an order on the ground, which it gives back, and writes the line of the answer;
 /// says beside how many bytes it has, or that the line handed over is too short.
 /// The line that closes a list asks for nothing and has no answer.
+// A question is asked of the ground sealed for its time; a closure for the three would be no shorter.
 pub fn obey<'a>(
     ground: Open<'a>,
     order: Order,

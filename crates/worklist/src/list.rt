@@ -47,6 +47,7 @@ pub fn check_list(text: &[u8]) -> Result<u16, Fault>
             line: 0,
         });
     }
+    // counted as they are read, since no list of the lines is made
     let mut before = 0;
     let mut rest = text;
     loop {
