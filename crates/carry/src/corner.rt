@@ -93,6 +93,7 @@ impl Label for Corner {
         }
     }
 
+    // Digit by digit, here and below: the four are fields, and a digit is looked up in another label.
     #[tactic(auto, using(crate::specs::FourDigits::low))]
     fn combine(self, other: Corner) -> Corner {
         Corner {

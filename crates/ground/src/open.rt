@@ -34,6 +34,7 @@ fn one_more(changes: u16) -> u16
 
 impl<'a> Open<'a> {
     /// Appends the cell a b c d and answers its number.
+    // Four numbers and no array, as those who call it and the calls of a journal have them.
     pub fn lay(&mut self, a: u16, b: u16, c: u16, d: u16) -> Result<u16, Refusal>
         ensures lays { Lays (plain self.old) (row a b c d) result (plain self.new) }
         ensures kept { Kept result (places_of self.old) (places_of self.new) }

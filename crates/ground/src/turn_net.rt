@@ -22,6 +22,7 @@ impl<'c> TurnNet<'c> {
     {
         let here = self.cells.reading(h);
         let there = self.cells.reading(g);
+        // said here and once in the skin net, so no `From<bool>` stands for it
         if read_alike(here, there) {
             Turn::Turned
         } else {
