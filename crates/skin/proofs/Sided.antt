@@ -1,13 +1,15 @@
 -- The net that a list of sides gives. It is sound where each side leads to a side that leads back.
-use Rattle.std.proofs.Common.{◌≡◌, ℕ, ◌+◌, ◌*◌, ◌/◌, ◌%◌, ◌<◌, ◌≤◌, true, false, ◌⊎◌, List, Some, None, sym, ap, ◌∙◌, subst, inl, inr, ⊎_elim, arith}
+use Rattle.std.proofs.Common.{◌≡◌, ℕ, ◌+◌, ◌*◌, ◌/◌, ◌%◌, ◌<◌, ◌≤◌, true, false, ◌⊎◌, List, Option, Some, None, sym, ap, ◌∙◌, subst, inl, inr, ⊎_elim, arith}
 use Rattle.std.proofs.lemmas.Bool.{cases_lt, cond-true, cond-false, and_from, and_left, and_right, lt-ltb, le-ltb}
+use Rattle.std.specs.Option.{MatchOption}
 use Rattle.carry.specs.declared.net.Place.{Place}
+use Rattle.carry.specs.declared.turn.Turn.{Turn}
 use Rattle.carry.specs.declared.turn.Turn.TheVariants.{Straight}
 use Rattle.carry.specs.Turns.{turn_meaning, turn_kind}
 use Rattle.carry.specs.Webs.{Sound, StepsMeant}
 use Rattle.skin.specs.declared.side.Side.{Side}
 use Rattle.skin.specs.Sides.{mate_at, turn_at}
-use Rattle.skin.specs.SkinTables.{inside, side_of, side_joins, side_steps, side_web}
+use Rattle.skin.specs.SkinTables.{inside, SideAt, side_of, side_joins, side_steps, side_web}
 
 -- a side by its number and by its item and edge place
 pub side_item : (i e : ℕ) → e < 3 → (3 * i + e) / 3 ≡ i
@@ -44,6 +46,11 @@ module _ (n : ℕ) (xs : List Side) where
   pub step_out : (i e : ℕ) → (n ≤ i) ⊎ (3 ≤ e) → side_steps n xs i e ≡ 0
   unfolding side_steps
   step_out i e o = cond-false (inside n i e) _ _ (outside_so i e o)
+
+  -- the step that is told of what stands at a side, or of none
+  pub step_told : (i e : ℕ) (o : Option Side) (t : Turn) {R : Side → Type 0} → SideAt n xs i e o → MatchOption o (t ≡ Straight) R → ((x : Side) → R x → t ≡ x.turn) → turn_meaning t ≡ side_steps n xs i e
+  step_told i e None t out s by = ap turn_meaning s ∙ sym (step_out i e out)
+  step_told i e (Some x) t at s by = ap turn_meaning (by x s) ∙ ap (λ (y : Side). turn_meaning y.turn) at.2 ∙ sym (step_in i e at.0 at.1)
 
   in_or_out : (i e : ℕ) → ((i < n) × (e < 3)) ⊎ ((n ≤ i) ⊎ (3 ≤ e))
   in_or_out i e = ⊎_elim (λ l. ⊎_elim (λ m. inl (l, m)) (λ m. inr (inr m)) (cases_lt e 3)) (λ l. inr (inl l)) (cases_lt i n)

@@ -28,9 +28,6 @@ impl Net for SkinNet {
     }
 
     fn step(&self, item: usize, side: usize) -> Turn {
-        match self.at(item, side) {
-            Some(side) => side.turn,
-            None => Turn::Straight,
-        }
+        self.at(item, side).map_or(Turn::Straight, |side| side.turn)
     }
 }
