@@ -1,12 +1,16 @@
 -- What `mate` tells of a side of the skin, as the table keeps it.
 use Rattle.std.proofs.Common.{◌≡◌, ℕ, ◌+◌, ◌*◌, ◌/◌, ◌%◌, ◌<◌, ◌≤◌, List, length, get_or, Ok, sym, ap, ◌∙◌, subst, arith}
 use Rattle.carry.specs.declared.turn.Turn.{Turn}
+use Rattle.carry.specs.declared.turn.Turn.TheVariants.{Straight, Turned}
 use Rattle.refusal.specs.declared.Refusal.{Refusal}
 use Rattle.refusal.specs.Causes.{First}
+use Rattle.rules.specs.Readings.{reads}
 use Rattle.rules.specs.Joins.{OnSkin}
-use Rattle.rules.specs.Mates.{Mated, MateCause}
+use Rattle.rules.specs.Mates.{Runs, Mated, MateCause}
+use Rattle.halves.specs.declared.edge.Edge.{Edge}
 use Rattle.mates.specs.declared.side.EdgeSide.{EdgeSide}
 use Rattle.mates.specs.Mating.{LeadsBack}
+use Rattle.mates.proofs.EdgePlaces.{runs_one}
 use Rattle.mates.proofs.Refused.{no_mate_cause}
 use Rattle.mates.proofs.Returning.{mate_skin, mate_place_low}
 use Rattle.skin.specs.Pairing.{SkinOf, Numbered, TurnBetween, Leads}
@@ -31,6 +35,18 @@ only_back rs h e found s l back g d m =
     let r = back (Ok (record { half_face = g; place = d })) (no_mate_cause rs found.half_face found.place (omega arith) s, m) in
     let f : record { half_face = g; place = d } ≡ record { half_face = h; place = e } = cc in
     (ap (λ (x : EdgeSide). x.half_face) f, ap (λ (x : EdgeSide). x.place) f)
+
+-- the turn between two edges is that between the sides that read them
+pub turn_so : (rs : List (List ℕ)) (h e g d : ℕ) (a b : Edge) (t : Turn) → Runs (reads rs h) e a.from a.to → Runs (reads rs g) d b.from b.to
+    → (a ≡ b → t ≡ Turned) → ((a ≡ b → ⊥) → t ≡ Straight) → TurnBetween rs h e g d t
+turn_so rs h e g d a b t here there same opposed = record {
+  same = λ w.
+      let p = runs_one (reads rs h) e _ _ _ _ w.2 here in let q = runs_one (reads rs g) d _ _ _ _ w.3 there in
+      let from : a.from ≡ b.from = sym p.0 ∙ q.0 in let to : a.to ≡ b.to = sym p.1 ∙ q.1 in
+      let edge : ℕ → ℕ → Edge = λ x y. record { from = x; to = y } in
+      same (ap (λ (x : ℕ). edge x a.to) from ∙ ap (edge b.from) to);
+  opposed = λ w. opposed (λ s. w (a.from, a.to, here, subst (λ (x : Edge). Runs (reads rs g) d x.from x.to) (sym s) there));
+}
 
 module _ {rs : List (List ℕ)} {ks : List ℕ} (skin : SkinOf rs ks) where
   pub skin_low : (i : ℕ) → i < length ks → get_or ks i 0 < 4096

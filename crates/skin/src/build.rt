@@ -5,7 +5,7 @@ ghost use Rattle.ground.specs.Grounds.{plain_sealed};
 ghost use Rattle.skin.specs.SkinTables.{skin_net_web};
 ghost use Rattle.skin.specs.Pairing.{SkinOf, Numbered, Leads, LeadsAll};
 
-use crate::directions::turn_between;
+use crate::directions::{edge, turn_between};
 use crate::side::Side;
 use crate::table::SkinNet;
 use carry::Turn;
@@ -58,7 +58,7 @@ fn side(ground: &Sealed, triangles: &[u16], items: &[u16], k: usize) -> Side
     };
     Side {
         mate: 3 * items[there.half_face as usize] + there.place,
-        turn: turn_between(ground, here, there),
+        turn: turn_between(edge(ground, here), edge(ground, there)),
     }
 }
 

@@ -1,10 +1,10 @@
 //! Whether two mates read their edge in the same direction.
-ghost use Rattle.std.specs.Prelude.{◌<◌};
+ghost use Rattle.std.specs.Prelude.{◌≡◌, ◌<◌};
 ghost use Rattle.rules.specs.Readings.{reads};
 ghost use Rattle.rules.specs.Joins.{Half};
 ghost use Rattle.rules.specs.Mates.{Runs};
 ghost use Rattle.ground.specs.Grounds.{plain_sealed};
-ghost use Rattle.skin.specs.Pairing.{TurnBetween};
+ghost use Rattle.carry.specs.declared.turn.Turn.TheVariants.{Straight, Turned};
 
 use carry::Turn;
 use ground::Sealed;
@@ -12,7 +12,7 @@ use halves::{Edge, EdgePlace, HalfFace};
 use mates::EdgeSide;
 
 // The edge, in the direction in which its half-face reads it.
-fn edge(ground: &Sealed, side: EdgeSide) -> Edge
+pub(crate) fn edge(ground: &Sealed, side: EdgeSide) -> Edge
     requires half { Half (plain_sealed ground.now).list side.half_face }
     requires place { side.place < 3 }
     ensures { Runs (reads (plain_sealed ground.now).list side.half_face) side.place result.from result.to }
@@ -23,15 +23,12 @@ fn edge(ground: &Sealed, side: EdgeSide) -> Edge
     half_face.edge(EdgePlace { number: side.place })
 }
 
-// The step from one side to the other: 1 where both have the same edge in the same direction.
-pub(crate) fn turn_between(ground: &Sealed, here: EdgeSide, there: EdgeSide) -> Turn
-    requires half { Half (plain_sealed ground.now).list here.half_face }
-    requires place { here.place < 3 }
-    requires other_half { Half (plain_sealed ground.now).list there.half_face }
-    requires other_place { there.place < 3 }
-    ensures { TurnBetween (plain_sealed ground.now).list here.half_face here.place there.half_face there.place result }
+// The step between two edges: 1 where they are the same edge in the same direction.
+pub(crate) fn turn_between(here: Edge, there: Edge) -> Turn
+    ensures same { here ≡ there → result ≡ Turned }
+    ensures opposed { (here ≡ there → ⊥) → result ≡ Straight }
 {
-    if edge(ground, here) == edge(ground, there) {
+    if here == there {
         Turn::Turned
     } else {
         Turn::Straight

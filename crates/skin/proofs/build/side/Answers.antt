@@ -1,6 +1,6 @@
 use Rattle.std.proofs.Common.{◌/◌, ◌%◌, get_or, arith}
 use Rattle.ground.specs.Grounds.{plain_sealed}
-use Rattle.skin.proofs.Paired.{mated_low, mate_told, side_low, leads_so}
+use Rattle.skin.proofs.Paired.{mated_low, mate_told, turn_so, side_low, leads_so}
 use Rattle.skin.proofs.build.side.Goals as goal
 
 pub bounds-items-there : goal.bounds-items-there
@@ -20,13 +20,14 @@ overflow_add-result c =
     let low = side_low c.requires.skin c.requires.items c.in-Ok.there.half_face c.in-Ok.there.place at.0 at.1 in
     omega arith
 
-pub turn_between-requires : goal.turn_between-requires
-turn_between-requires c =
-    let at = mated_low c.in-Ok.ensures.tells.1 in let near = c.requires.near in
-    record { half = (c.requires.skin.listing.sound (c.args.k / 3) (omega arith)).0; place = omega arith; other_half = at.0.0; other_place = at.1 }
+pub edge-requires-2 : goal.edge-requires-2
+edge-requires-2 c = let at = mated_low c.in-Ok.ensures.tells.1 in record { half = at.0.0; place = at.1 }
 
 pub returns : goal.returns
-returns c = leads_so c.requires.skin c.requires.items c.args.k c.in-Ok.there c.turn_between.result c.in-Ok.ensures.tells.1 c.in-Ok.ensures.back c.turn_between.ensures
+returns c =
+    let rs = (plain_sealed c.args.ground.now).list in
+    leads_so c.requires.skin c.requires.items c.args.k c.in-Ok.there c.turn_between.result c.in-Ok.ensures.tells.1 c.in-Ok.ensures.back
+    (turn_so rs _ _ _ _ c.edge.result c.edge-2.result _ c.edge.ensures c.edge-2.ensures c.turn_between.ensures.same c.turn_between.ensures.opposed)
 
 pub unreachable-requires : goal.unreachable-requires
 unreachable-requires c =
