@@ -13,7 +13,7 @@ use Rattle.mates.specs.Mating.{LeadsBack}
 use Rattle.mates.proofs.EdgePlaces.{runs_one}
 use Rattle.mates.proofs.Refused.{no_mate_cause}
 use Rattle.mates.proofs.Returning.{mate_skin, mate_place_low}
-use Rattle.skin.specs.Pairing.{SkinOf, Numbered, TurnBetween, Leads}
+use Rattle.skin.specs.Pairing.{SkinOf, TurnBetween, Leads}
 use Rattle.skin.proofs.Rising.{few_below}
 use Rattle.skin.proofs.Sided.{side_item, side_place}
 
@@ -49,36 +49,24 @@ turn_so rs h e g d a b t here there same opposed = record {
 }
 
 module _ {rs : List (List ℕ)} {ks : List ℕ} (skin : SkinOf rs ks) where
-  pub skin_low : (i : ℕ) → i < length ks → get_or ks i 0 < 4096
-  skin_low i l = let few = skin.few in let half = (skin.listing.sound i l).0 in omega arith
-
   pub skin_few : length ks ≤ 4096
   skin_few = let few = skin.few in few_below skin.listing 4096 (λ h s. let half = s.0 in omega arith)
 
-module _ {rs : List (List ℕ)} {ks items : List ℕ} (skin : SkinOf rs ks) (numbered : Numbered ks items) where
-  -- the item of a skin triangle
-  pub item_of : (m : ℕ) → OnSkin rs m → (get_or items m 0 < length ks) × (get_or ks (get_or items m 0) 0 ≡ m)
-  item_of m s =
-      let w = skin.listing.whole m s in
-      let e : get_or items m 0 ≡ w.0 = ap (λ (x : ℕ). get_or items x 0) (sym w.2) ∙ numbered.item w.0 w.1 in
-      (subst (λ (x : ℕ). x < length ks) (sym e) w.1, ap (λ (x : ℕ). get_or ks x 0) e ∙ w.2)
-
   -- the number of a side fits its type
-  pub side_low : (m d : ℕ) → OnSkin rs m → d < 3 → 3 * get_or items m 0 + d < 12288
-  side_low m d s l = let item = (item_of m s).0 in let few = skin_few skin in omega arith
+  pub side_low : (i d : ℕ) → i < length ks → d < 3 → 3 * i + d < 12288
+  side_low i d l m = let few = skin_few in omega arith
 
-  pub leads_so : (k : ℕ) (found : EdgeSide) (t : Turn) → Mated rs (get_or ks (k / 3) 0) (k % 3) found.half_face found.place
+  pub leads_so : (k i : ℕ) (found : EdgeSide) (t : Turn) → (i < length ks) × (get_or ks i 0 ≡ found.half_face) → Mated rs (get_or ks (k / 3) 0) (k % 3) found.half_face found.place
       → LeadsBack rs (get_or ks (k / 3) 0) (k % 3) (Ok found) → TurnBetween rs (get_or ks (k / 3) 0) (k % 3) found.half_face found.place t
-      → Leads rs ks k (record { mate = 3 * get_or items found.half_face 0 + found.place; turn = t })
-  leads_so k found t m back turn =
+      → Leads rs ks k (record { mate = 3 * i + found.place; turn = t })
+  leads_so k i found t item m back turn =
       let h : ℕ = get_or ks (k / 3) 0 in let e : ℕ = k % 3 in
       let s = (mated_low m).0 in
       let low = (mated_low m).1 in
-      let item = item_of found.half_face s in
       let fits = item.0 in
-      let x : ℕ = 3 * get_or items found.half_face 0 + found.place in
-      let half : get_or ks (x / 3) 0 ≡ found.half_face = ap (λ (i : ℕ). get_or ks i 0) (side_item _ found.place low) ∙ item.1 in
-      let place : x % 3 ≡ found.place = side_place (get_or items found.half_face 0) found.place low in
+      let x : ℕ = 3 * i + found.place in
+      let half : get_or ks (x / 3) 0 ≡ found.half_face = ap (λ (j : ℕ). get_or ks j 0) (side_item i found.place low) ∙ item.1 in
+      let place : x % 3 ≡ found.place = side_place i found.place low in
       record {
         near = omega arith;
         mated = at_both (Mated rs h e) (sym half) (sym place) m;
