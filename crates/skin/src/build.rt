@@ -39,7 +39,8 @@ fn item_of(triangles: &[u16], h: u16) -> u16
     item as u16
 }
 
-// Where side k leads: edge place k % 3 of skin triangle k / 3.
+// Where side k leads: edge place k % 3 of skin triangle k / 3. The ground and its skin triangles are no struct:
+// what holds of the triangles finds an index, and no ghost field takes that.
 fn side(ground: &Sealed, triangles: &[u16], k: usize) -> Side
     requires skin { SkinOf (plain_sealed ground.now).list triangles.now }
     requires near { k < 3 * length triangles.now }
