@@ -32,10 +32,8 @@ pub(crate) fn across(row: [u16; 4], i: usize, edge: Edge) -> usize
     requires spans { Spans (face row i) edge.from edge.to }
     ensures { Across row i edge.from edge.to result }
 {
-    for (k, v) in row.iter().enumerate() {
-        if k != i && !edge.has(*v) {
-            return k;
-        }
-    }
-    unreachable()
+    let Some(k) = (0..4).find(|&k| k != i && !edge.has(row[k])) else {
+        unreachable()
+    };
+    k
 }

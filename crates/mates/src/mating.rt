@@ -39,8 +39,8 @@ pub fn mate(ground: &Sealed, h: u16, place: u16) -> Result<EdgeSide, Refusal>
     let _ = ground.counts();
     let place = EdgePlace::try_from(place)?;
     let here = HalfFace::of(ground, h)?;
-    match here.opposite() {
-        Some(_) => Err(Refusal::HalfFaceJoined),
-        None => Ok(mate_at(here, place)),
+    if !here.is_open() {
+        return Err(Refusal::HalfFaceJoined);
     }
+    Ok(mate_at(here, place))
 }
