@@ -21,10 +21,8 @@ fn first_corner(row: [u16; 4], v: u16) -> Option<usize>
 fn corner_at(row: [u16; 4], v: u16) -> u8
     ensures { result ≡ corner_at row v }
 {
-    match first_corner(row, v) {
-        Some(corner) => corner as u8,
-        None => 3,
-    }
+    // where v is at no corner, `corner_at` answers the last
+    first_corner(row, v).map_or(3, |corner| corner as u8)
 }
 
 // The corner of `here` that corner k of `there` is sent to.

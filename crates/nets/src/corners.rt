@@ -58,9 +58,7 @@ impl Net for CornerNet<'_, '_> {
     }
 
     fn step(&self, item: usize, side: usize) -> Corner {
-        match self.crossing(item, side) {
-            Some(step) => step,
-            None => <Corner as Label>::neutral(),
-        }
+        self.crossing(item, side)
+            .unwrap_or_else(<Corner as Label>::neutral)
     }
 }
