@@ -15,7 +15,8 @@ use refusal::Refusal;
 fn no_unsound_edge(ground: &Sealed, v: u16, w: u16) -> bool
     ensures { (result ≡ true) ↔ (Edge (plain_sealed ground.now).list v w → EdgeSound (plain_sealed ground.now).list v w) }
 {
-    // With its counts a ground tells that its vertices are in range: no edge is refused.
+    // With its counts a ground tells that its vertices are in range: only what is no edge is
+    // refused, and that counts as sound.
     let _ = ground.counts();
     edge_sound(ground, v, w).unwrap_or(true)
 }
@@ -29,12 +30,7 @@ fn cell_edges_sound(ground: &Sealed, v: u16, t: usize) -> bool
         unreachable()
     };
     let row = half_face.corners();
-    for w in &row {
-        if !no_unsound_edge(ground, v, *w) {
-            return false;
-        }
-    }
-    true
+    row.iter().all(|w| no_unsound_edge(ground, v, *w))
 }
 
 // Whether the edges at v are sound; `cells` are the cells that have v.
@@ -42,12 +38,9 @@ fn edges_sound(ground: &Sealed, v: u16, cells: &[u16]) -> bool
     requires { Listing (AtVertex (plain_sealed ground.now).list v) cells.now }
     ensures { (result ≡ true) ↔ ((w : ℕ) → Edge (plain_sealed ground.now).list v w → EdgeSound (plain_sealed ground.now).list v w) }
 {
-    for t in cells {
-        if !cell_edges_sound(ground, v, *t as usize) {
-            return false;
-        }
-    }
-    true
+    cells
+        .iter()
+        .all(|t| cell_edges_sound(ground, v, *t as usize))
 }
 
 /// Whether the vertex v is sound: all edges at it are sound, and its cells reach one another by

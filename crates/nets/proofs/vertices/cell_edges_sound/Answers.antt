@@ -1,5 +1,5 @@
-use Rattle.std.proofs.Common.{◌≡◌, ℕ, ◌+◌, ◌*◌, ◌/◌, ◌<◌, List, [], get_or, sym, ap, ◌∙◌, subst, ⊎_elim, arith}
-use Rattle.std.proofs.lemmas.Bool.{cases_eq, false≢true, both_ways}
+use Rattle.std.proofs.Common.{◌≡◌, ℕ, ◌+◌, ◌*◌, ◌/◌, ◌<◌, List, [], get_or, ap, ◌∙◌, arith, rules}
+use Rattle.std.proofs.lemmas.Iterator.{cases_from_all, YieldsList-from_slice}
 use denote.Ref.{Bor}
 use Rattle.ground.specs.declared.stage.Sealed.{Sealed}
 use Rattle.ground.specs.Grounds.{plain_sealed}
@@ -9,6 +9,7 @@ use Rattle.rules.proofs.Told.{vertices_corner}
 use Rattle.halves.specs.declared.half_face.HalfFace.{HalfFace}
 use Rattle.halves.specs.HalfFaces.{rows_of}
 use Rattle.halves.proofs.Grounds.{said_of}
+use Rattle.nets.proofs.Each.{all_of}
 use Rattle.nets.proofs.vertices.cell_edges_sound.Goals as goal
 
 -- the vertices of a cell, by its first half-face
@@ -19,22 +20,12 @@ cell_vertices sealed t f g n row e i l =
     let whole = said_of (λ (rs : List (List ℕ)) (h : ℕ). row ≡ vertices (get_or rs (h / 4) [])) f sealed (4 * t + 0) g n e in
     ap (λ (y : List ℕ). get_or y i 0) (whole ∙ ap (λ (k : ℕ). vertices (get_or (plain_sealed sealed.now).list k [])) first) ∙ vertices_corner (get_or (plain_sealed sealed.now).list t []) i l
 
-pub loop-w-preserved : goal.loop-w-preserved
-loop-w-preserved c =
-    let x = get_or (plain_sealed c.args.ground.now).list c.args.t [] in
-    let i = c.loop-w.w-index in
+pub returns : goal.returns
+returns c =
+    let rs = (plain_sealed c.args.ground.now).list in
+    let row = c.corners-row.result in
     let at = c.in-Some.ensures in
-    let P : ℕ → Type 0 = λ u. Edge (plain_sealed c.args.ground.now).list c.args.v u → EdgeSound (plain_sealed c.args.ground.now).list c.args.v u in
-    let z = cell_vertices c.args.ground c.args.t c.in-Some.half_face at.0 at.1 c.corners-row.result c.corners-row.ensures i c.loop-w-test.true in
-    let here : P (corner x i) = subst P z (c.no_unsound_edge.ensures.0 c.if-not-no_unsound_edge.false) in
-    λ k l. ⊎_elim (λ q. subst (λ (u : ℕ). P (corner x u)) (sym q) here) (λ q. c.loop-w.invariant k (omega arith)) (cases_eq k i)
-
-pub returns-then-not-no_unsound_edge : goal.returns-then-not-no_unsound_edge
-returns-then-not-no_unsound_edge c =
-    let i = c.loop-w.w-index in
-    let at = c.in-Some.ensures in
-    let P : ℕ → Type 0 = λ u. Edge (plain_sealed c.args.ground.now).list c.args.v u → EdgeSound (plain_sealed c.args.ground.now).list c.args.v u in
-    let z = cell_vertices c.args.ground c.args.t c.in-Some.half_face at.0 at.1 c.corners-row.result c.corners-row.ensures i c.loop-w-test.true in (
-      (λ q. absurd (false≢true q)),
-      (λ f. absurd (both_ways c.no_unsound_edge.result c.if-not-no_unsound_edge.true (c.no_unsound_edge.ensures.1 (subst P (sym z) (f i c.loop-w-test.true))))),
-    )
+    let P : ℕ → Type 0 = λ w. Edge rs c.args.v w → EdgeSound rs c.args.v w in
+    all_of P c.all.result row 4 (corner (get_or rs c.args.t [])) (omega arith)
+    (cell_vertices c.args.ground c.args.t c.in-Some.half_face at.0 at.1 row c.corners-row.ensures)
+    (cases_from_all _ _ c.all.result P (λ w. P w → ⊥) c.all.ensures.ran (YieldsList-from_slice row cc) (λ w q k. search rules) (λ w q k. search rules))
