@@ -1,5 +1,5 @@
 //! Nets over a sealed ground, which they ask by its public questions: the corner net, and soundness
-//! by the star net.
+//! by the star net. A question is handed the ground and the vertices, as those who ask have them.
 #![tactic(auto)]
 
 mod corner_step;

@@ -8,7 +8,8 @@ use carry::{Net, Place, Turn};
 use ground::Sealed;
 use halves::HalfFace;
 
-// All steps are straight, so labels always agree: carry counts the pieces.
+// All steps are straight, so labels always agree: carry counts the pieces. Two vertices and no `Edge`, since at
+// v = w they are one.
 #[derive(Clone, Copy)]
 pub(crate) struct StarNet<'g, 'a> {
     pub(crate) ground: &'g Sealed<'a>,

@@ -28,6 +28,7 @@ pub(crate) fn turn_between(here: Edge, there: Edge) -> Turn
     ensures same { here ≡ there → result ≡ Turned }
     ensures opposed { (here ≡ there → ⊥) → result ≡ Straight }
 {
+    // said here and once in the ground, so no `From<bool>` stands for it
     if here == there {
         Turn::Turned
     } else {
