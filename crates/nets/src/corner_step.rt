@@ -21,7 +21,7 @@ fn first_corner(row: [u16; 4], v: u16) -> Option<usize>
 fn corner_at(row: [u16; 4], v: u16) -> u8
     ensures { result ≡ corner_at row v }
 {
-    // where v is at no corner, `corner_at` answers the last
+    // the definition answers the last corner where v is at none
     first_corner(row, v).map_or(3, |corner| corner as u8)
 }
 

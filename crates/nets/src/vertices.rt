@@ -30,7 +30,7 @@ fn cell_edges_sound(ground: &Sealed, v: u16, t: usize) -> bool
         unreachable()
     };
     let row = half_face.corners();
-    row.iter().all(|w| no_unsound_edge(ground, v, *w))
+    row.iter().all(|&w| no_unsound_edge(ground, v, w))
 }
 
 // Whether the edges at v are sound; `cells` are the cells that have v.
@@ -40,7 +40,7 @@ fn edges_sound(ground: &Sealed, v: u16, cells: &[u16]) -> bool
 {
     cells
         .iter()
-        .all(|t| cell_edges_sound(ground, v, *t as usize))
+        .all(|&t| cell_edges_sound(ground, v, t as usize))
 }
 
 /// Whether the vertex v is sound: all edges at it are sound, and its cells reach one another by
