@@ -14,7 +14,8 @@ pub struct Corner {
     ghost lawful: { different a b c d ≡ true },
 }
 
-// Whether these are four different digits from 0 to 3.
+// Whether these are four different digits from 0 to 3. Four numbers and no array, here and in `new`, which is
+// public.
 fn four_different(a: u8, b: u8, c: u8, d: u8) -> bool
     ensures { result ≡ different a b c d }
 {

@@ -8,7 +8,7 @@ use crate::marks::{DONE, ROOT, met_by, sides_done, way_in};
 use crate::net::Net;
 
 // The two lists are parameters of each method: one struct of both would have to say in every contract
-// that it still holds the same two.
+// that it still holds the same two. What it leaves as it was, each method says of its own step.
 impl<N: Net> CountedNet<'_, N> {
     /// Tries a side of `item`: enters the item that it is joined to, if that is not met yet. The
     /// answer is where the walk stands then.

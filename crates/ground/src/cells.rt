@@ -20,6 +20,7 @@ pub struct Cells<'a> {
     ghost standing: { Standing records.now count },
 }
 
+// Each write says of itself, in a word, that the places stay as many.
 impl<'a> Cells<'a> {
     ghost use Rattle.carry.specs.Turns.{turn_meaning, turn_kind};
     ghost use Rattle.carry.specs.Carrying.{Carried};

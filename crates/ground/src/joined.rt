@@ -47,7 +47,7 @@ impl<'c> Joined<'c> {
         self.opposite(4 * item + side)
     }
 
-    // The same as an item and a side.
+    // The same as an item and a side. Divided here, as each net does by its own number of sides.
     pub(crate) fn place(&self, item: usize, side: usize) -> Option<Place>
         ensures { result ≡ cell_joins (joined_rows self.now) item side }
     {

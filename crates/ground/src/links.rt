@@ -47,7 +47,8 @@ fn faces_of(t: usize) -> [Option<u16>; 4]
     [h, h + 1, h + 2, h + 3].map(Some)
 }
 
-// Writes a new cell at the end, with its joins found already, and joins its neighbours to it.
+// Writes a new cell at the end, with its joins found already, and joins its neighbours to it. Corners and joins
+// apart, as `append` has them.
 pub(crate) fn lay_cell(cells: &mut [Cell], count: usize, corners: [u16; 4], joins: [Option<u16>; 4])
     requires low { count < 1024 }
     requires inside { count < length cells.old }

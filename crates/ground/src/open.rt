@@ -32,6 +32,7 @@ fn one_more(changes: u16) -> u16
     changes.saturating_add(1)
 }
 
+// Each change says of itself, in a word, what it keeps of the places.
 impl<'a> Open<'a> {
     /// Appends the cell a b c d and answers its number.
     // Four numbers and no array, as those who call it and the calls of a journal have them.

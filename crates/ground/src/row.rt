@@ -40,7 +40,7 @@ pub(crate) fn read(row: [u16; 4], i: usize) -> [u16; 3]
     }
 }
 
-// Whether one reading is a rotation of the other.
+// Whether one reading is a rotation of the other: three, each in a word.
 pub(crate) fn read_alike(a: [u16; 3], b: [u16; 3]) -> bool
     ensures { result ≡ rotation a b }
 {

@@ -16,6 +16,7 @@ use show::Line;
 fn lay_ring(places: &mut [Cell]) -> Sealed<'_> {
     let mut ring = make(places);
     for [a, b, c, d] in [[0, 1, 2, 3], [0, 1, 3, 4], [0, 1, 4, 5], [0, 1, 5, 2]] {
+        // no refusal is awaited: the four cells are of this program
         let _ = ring.lay(a, b, c, d);
     }
     ring.seal()
@@ -26,10 +27,11 @@ fn run(rt: &impl Print) -> anyhow::Result<()> {
     let ring = lay_ring(&mut own);
     let net = corner_net(&ring);
     let mut places = [Cell::free(); 7];
+    // as long as the calls of the journal ask
     let mut turns = [Turn::Straight; 32];
     let mut corners = [<Corner as Label>::neutral(); 8];
     let mut labels = [<Corner as Label>::neutral(); 4];
-    let mut numbers = [0; 64];
+    let mut numbers = [0; 32];
     let mut marks = [0; 32];
     let mut journal = station();
     {

@@ -79,6 +79,7 @@ fn gather_edges<'a>(ground: &Sealed, places: &'a mut [Entry<Pair>]) -> EdgeIndex
 /// The edge index of the ground over the places: for each edge its two vertices in rising order, and
 /// the half-face that stands for it. It answers how many there are; if they do not fit, it refuses
 /// with `ListTooShort`, and the index is empty over the places as they were.
+// Apart from `face_index`: the key, the room and what is gathered differ, and no more is here.
 pub fn edge_index<'p>(
     ground: &Sealed,
     places: &'p mut [Entry<Pair>],

@@ -30,7 +30,7 @@ fn put_face(f: HalfFace, index: &mut TriangleIndex)
     }
 }
 
-// The index of all triangles, over free places.
+// The index of all triangles, over free places. Apart from that of the edges: see there.
 fn gather_faces<'a>(ground: &Sealed, places: &'a mut [Entry<Triple>]) -> TriangleIndex<'a>
     requires { 4096 ≤ length places.old }
     ensures { FaceEntries (plain_sealed ground.now).list (held result).entries }

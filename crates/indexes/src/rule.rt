@@ -2,6 +2,7 @@
 ghost use Rattle.indexes.specs.Rule.{Stands};
 
 /// A half-face, and whether it is open.
+// No Option: the number stands in both cases.
 #[derive(Clone, Copy, PartialEq, Eq, Debug)]
 pub struct Side {
     pub half_face: u16,

@@ -18,7 +18,8 @@ impl Part {
 }
 
 // Carries labels over the net, in parts of the two lists. A list is lent apart from the part of it: the
-// lists are a desk's, and the parts a call's.
+// lists are a desk's, and the parts a call's. A part of a list is lent where it is used, here and in the
+// questions: a `&mut` that a method gives out would be longer to say.
 pub(crate) fn carry_over<N: Net>(
     net: &N,
     labels: &mut [N::Label],

@@ -25,7 +25,7 @@ pub(crate) fn place_of(there: HalfFace, edge: Edge) -> EdgePlace
 }
 
 // The half-face of the row, other than i, that has the edge: it lacks the corner that is neither
-// corner i nor on the edge.
+// corner i nor on the edge. A row and a corner are no struct: nothing holds of the two together.
 pub(crate) fn across(row: [u16; 4], i: usize, edge: Edge) -> usize
     requires differ { Repeated row → ⊥ }
     requires low { i < 4 }

@@ -25,7 +25,8 @@ fn corner_at(row: [u16; 4], v: u16) -> u8
     first_corner(row, v).map_or(3, |corner| corner as u8)
 }
 
-// The corner of `here` that corner k of `there` is sent to.
+// The corner of `here` that corner k of `there` is sent to. Each row with its corner, as the definition has
+// them.
 fn sent_to(here: [u16; 4], side: usize, there: [u16; 4], entered: usize, k: usize) -> u8
     requires { (side < 4) × (k < 4) }
     ensures { result ≡ sent here side there entered k }

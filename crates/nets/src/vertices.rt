@@ -11,7 +11,7 @@ use ground::Sealed;
 use halves::HalfFace;
 use refusal::Refusal;
 
-// Whether the edge of v and w is sound, if it is one.
+// Whether the edge of v and w is sound, if it is one; else they are no `Edge`.
 fn no_unsound_edge(ground: &Sealed, v: u16, w: u16) -> bool
     ensures { (result ≡ true) ↔ (Edge (plain_sealed ground.now).list v w → EdgeSound (plain_sealed ground.now).list v w) }
 {

@@ -14,7 +14,8 @@ const MOST_READ: u64 = 65537;
 // The cell places that every list starts from.
 const PLACES: usize = 1024;
 
-// Room for the longest line: "ok" and the numbers of 1,024 cells, each after a space.
+// Room for the longest line: "ok" and the numbers of 1,024 cells, each after a space. `obey` fills a line that
+// is handed over.
 const LINE: usize = 8192;
 
 // Prints the first bytes of the line, which `obey` is handed and fills.

@@ -15,6 +15,7 @@ fn show(rt: &impl Print, ground: &Sealed) -> anyhow::Result<()> {
 fn main(rt: HostRuntime) -> anyhow::Result<()> {
     let mut places = [Cell::free(); 2];
     let mut open = make(&mut places);
+    // what they answer is not asked: the counts show what came of them
     let _ = open.lay(0, 1, 2, 3);
     let _ = open.lay(1, 2, 3, 4);
     let sealed = open.seal();

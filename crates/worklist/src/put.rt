@@ -30,7 +30,7 @@ pub(crate) fn put(out: &mut [u8], at: usize, bytes: &[u8]) -> usize
     end
 }
 
-// Numbers, each after one space.
+// Numbers, each after one space. Not by `Display`: no `fmt` promises to succeed where there is room.
 pub(crate) fn put_numbers(out: &mut [u8], at: usize, numbers: &[u16]) -> usize
     requires { at + length (spaced numbers.now) ≤ length out.old }
     ensures { Put out.old out.new at (spaced numbers.now) result }
