@@ -1,28 +1,31 @@
 //! The index at triples, at pairs, and at a kind of key of the tests' own.
 ghost use Rattle.std.specs.Prelude.{◌≡◌};
-ghost use Rattle.std.proofs.Math.Path.{ap, sym};
-ghost use Rattle.index.specs.KeyLemmas.{number_identical};
+ghost use Rattle.std.proofs.Math.Path.{ap};
+ghost use Rattle.std.specs.Ordering.{nat_cmp};
+ghost use Rattle.index.specs.Total.{number_total, total_by, turned_total};
 
 use index::{EdgeIndex, Entry, Index, Key, Pair, TriangleIndex, Triple};
 use refusal::Refusal;
-use std::cmp::Reverse;
+use std::cmp::Ordering;
 use std::process::Abort;
 
 // Numbers, the greatest first.
-#[derive(Clone, Copy, PartialEq, Eq, PartialOrd, Ord, Debug)]
-struct Descending(Reverse<u16>);
+#[derive(Clone, Copy, PartialEq, Eq, Debug)]
+struct Descending(u16);
 
 impl Key for Descending {
-    ghost identical = { λ a b h. ap (λ n. record { 0 = record { 0 = n } }) (sym (number_identical b.0.0 a.0.0 h)) };
-}
+    ghost order = { λ a b. nat_cmp b.0 a.0 };
 
-fn falling(key: u16) -> Descending {
-    Descending(Reverse(key))
+    ghost total = { total_by (turned_total number_total) (λ a. a.0) (λ a b h. ap (λ n. record { 0 = n }) h) };
+
+    fn compare(self, other: Descending) -> Ordering {
+        other.0.cmp(&self.0)
+    }
 }
 
 fn number(key: u16, half_face: u16) -> Entry<Descending> {
     Entry {
-        key: falling(key),
+        key: Descending(key),
         half_face,
     }
 }
@@ -93,14 +96,14 @@ fn an_equal_key_is_replaced(rt: HostRuntime) {
 fn only_keys_that_are_there_are_found(rt: HostRuntime) {
     let mut places = [number(0, 7); 6];
     let mut index = Index::over(&mut places);
-    assert_eq!(rt; index.find(falling(0)), None);
+    assert_eq!(rt; index.find(Descending(0)), None);
     put_all(&rt, &mut index);
     for key in [9, 6, 4, 1] {
-        assert_eq!(rt; index.find(falling(key)), Some(10 * key));
+        assert_eq!(rt; index.find(Descending(key)), Some(10 * key));
     }
     // before all, between, behind all and in a free place
     for key in [10, 8, 5, 2, 0] {
-        assert_eq!(rt; index.find(falling(key)), None);
+        assert_eq!(rt; index.find(Descending(key)), None);
     }
 }
 
@@ -128,7 +131,7 @@ fn no_places_hold_no_entries(rt: HostRuntime) {
     let mut places: [Entry<Descending>; 0] = [];
     let mut index = Index::over(&mut places);
     assert_eq!(rt; index.put(number(1, 10)), Err(Refusal::ListTooShort));
-    assert_eq!(rt; index.find(falling(1)), None);
+    assert_eq!(rt; index.find(Descending(1)), None);
     assert_eq!(rt; index.len(), 0);
 }
 

@@ -1,14 +1,13 @@
 -- What stands where in a list that rises, before and after an entry is put into it.
-use Rattle.std.proofs.Common.{◌≡◌, ℕ, zero, suc, ◌<◌, ◌≤◌, true, ◌⊎◌, List, [], ◌∷◌, length, get_or, set, Some, None, Option, Ok, Err, Result, Ordering, Less, Equal, Greater, sym, refl, ap, ◌∙◌, subst, inl, inr, ⊎_elim, suc-le-suc, zero-le, le_of_suc-le-suc, not-suc-le-zero, le_of_lt, eq-or-lt_of_le, arith}
-use Rattle.std.specs.Cmp.{tied_itself}
-use Rattle.std.specs.Ordering.{ordering_reverse, ordering_index, is_lt}
+use Rattle.std.proofs.Common.{◌≡◌, ℕ, zero, suc, ◌+◌, ◌<◌, ◌≤◌, true, ◌⊎◌, List, [], ◌∷◌, length, get_or, set, Some, None, Option, Ok, Err, Result, Ordering, Less, Equal, Greater, sym, refl, ap, ◌∙◌, subst, inl, inr, ⊎_elim, suc-le-suc, zero-le, le_of_suc-le-suc, not-suc-le-zero, le_of_lt, eq-or-lt_of_le, arith}
+use Rattle.std.specs.Ordering.{ordering_reverse, is_lt}
 use Rattle.std.specs.List.{insert}
 use Rattle.std.specs.Result.{result_ok}
-use Rattle.std.specs.List.Sorted.{IsBinarySearchResult, IsNonDecreasingBy, IsSearchInRange}
 use Rattle.index.specs.declared.entry.Entry.{Entry}
 use Rattle.index.specs.Entries.{Rising, put_in, half_face_of}
 use Rattle.index.specs.Search.{LessBefore, GreaterFrom, Sought}
-use Rattle.index.proofs.Orders.{TotalOrder}
+use Rattle.index.specs.Orders.{TotalOrder}
+use Rattle.index.specs.Total.{equal_itself}
 
 is_less : (o : Ordering) → is_lt o ≡ true → o ≡ Less
 is_less Less h = refl
@@ -33,7 +32,7 @@ module _ {K : Type 0} {order : K → K → Ordering} (total : TotalOrder order) 
       let next : order (get_or es j d).key (get_or es (suc j) d).key ≡ Less = is_less _ (r j d t) in
       ⊎_elim
       (λ (e : i ≡ j). subst (λ (z : ℕ). order (get_or es z d).key (get_or es (suc j) d).key ≡ Less) (sym e) next)
-      (λ (lt : i < j). total.laws.trans _ _ _ (rising_apart es r i j d lt (le_of_lt t)) next)
+      (λ (lt : i < j). total.chained _ _ _ (rising_apart es r i j d lt (le_of_lt t)) next)
       (eq-or-lt_of_le (le_of_suc-le-suc l))
 
   -- what stands before an entry of the key k is less than k
@@ -41,28 +40,26 @@ module _ {K : Type 0} {order : K → K → Ordering} (total : TotalOrder order) 
       → ((d : Entry K) → order (get_or es i d).key k ≡ Equal) → LessBefore order k es i
   less_before k es i r h q j d l = subst (λ (z : K). order (get_or es j d).key z ≡ Less) (total.equal_only _ k (q d)) (rising_apart es r j i d l h)
 
-  -- how the keys stand to k does not fall along the list
-  pub climbs : (k : K) (es : List (Entry K)) → Rising order es → IsNonDecreasingBy (λ (x : Entry K). ordering_index (order x.key k)) es
-  climbs k es r i j d l t =
+  -- one turn of the search by halves, up
+  pub less_up_to : (k : K) (es : List (Entry K)) (m : ℕ) → Rising order es → m < length es
+      → ((d : Entry K) → order (get_or es m d).key k ≡ Less) → LessBefore order k es (m + 1)
+  less_up_to k es m r h q j d l =
+      let le : j ≤ m = omega arith in
       ⊎_elim
-      (λ (e : i ≡ j). let P : ℕ → Type 0 = λ z. ordering_index (order (get_or es i d).key k) ≤ ordering_index (order (get_or es z d).key k) in subst P e (omega arith))
-      (λ (lt : i < j).
-      let less = rising_apart es r i j d lt t in
-      ⊎_elim
-      (λ (q : order (get_or es j d).key k ≡ Less). omega (arith, ap ordering_index (total.laws.trans _ _ k less q)))
-      (⊎_elim
-      (λ (q : order (get_or es j d).key k ≡ Equal). omega (arith, ap ordering_index q, top (order (get_or es i d).key k) (subst (λ (z : K). order (get_or es i d).key z ≡ Less) (total.equal_only _ k q) less)))
-      (λ (q : order (get_or es j d).key k ≡ Greater). omega (arith, ap ordering_index q, at_most (order (get_or es i d).key k))))
-      (one_of_three (order (get_or es j d).key k)))
-      (eq-or-lt_of_le l)
-    where
-      at_most : (o : Ordering) → ordering_index o ≤ 2
-      at_most Less = omega arith
-      at_most Equal = omega arith
-      at_most Greater = omega arith
+      (λ (e : j ≡ m). subst (λ (z : ℕ). order (get_or es z d).key k ≡ Less) (sym e) (q d))
+      (λ (lt : j < m). total.chained _ _ k (rising_apart es r j m d lt h) (q d))
+      (eq-or-lt_of_le le)
 
-      top : (o : Ordering) → o ≡ Less → ordering_index o ≤ 1
-      top o h = omega (arith, ap ordering_index h)
+  -- and down
+  pub greater_from : (k : K) (es : List (Entry K)) (m : ℕ) → Rising order es → m < length es
+      → ((d : Entry K) → order (get_or es m d).key k ≡ Greater) → GreaterFrom order k es m
+  greater_from k es m r h q j d l t =
+      ⊎_elim
+      (λ (e : m ≡ j). subst (λ (z : ℕ). order (get_or es z d).key k ≡ Greater) e (q d))
+      (λ (lt : m < j).
+      let less : order k (get_or es m d).key ≡ Less = total.exchanged _ k ∙ ap ordering_reverse (q d) in
+      total.exchanged k _ ∙ ap ordering_reverse (total.chained k _ _ less (rising_apart es r m j d lt t)))
+      (eq-or-lt_of_le l)
 
   less_tail : (k : K) (x : Entry K) (xs : List (Entry K)) (p : ℕ) → LessBefore order k (x ∷ xs) (suc p) → LessBefore order k xs p
   less_tail k x xs p b i d h = b (suc i) d (suc-le-suc h)
@@ -106,11 +103,6 @@ module _ {K : Type 0} {order : K → K → Ordering} (total : TotalOrder order) 
   none_between k [] (suc p) b a = refl
   none_between k (x ∷ xs) (suc p) b a = rw (b 0 x (suc-le-suc zero-le), half_face_of) (none_between k xs p (less_tail k x xs p b) (greater_tail k x xs p a))
 
-  -- what a binary search answers where entries rise
-  pub sought : (k : K) (es : List (Entry K)) → Rising order es → (r : Result ℕ ℕ) → IsSearchInRange r (length es) → IsBinarySearchResult (λ (x : Entry K). order x.key k) es r → Sought order k es r
-  sought k es rising (Ok i) h q = (h, q)
-  sought k es rising (Err p) h q = let s = q (climbs k es rising) in (h, λ i d l. s.0 i d zero-le l, s.1)
-
   -- the half-face at the place that is answered, if there is one, is that beside the key
   pub looked_up : (k : K) (es : List (Entry K)) → Rising order es → (r : Result ℕ ℕ) → Sought order k es r → LooksUp order k es (result_ok r)
   looked_up k es rising (Ok i) s = (s.0, λ d. found_at k es i d s.0 (less_before k es i rising s.0 s.1) s.1)
@@ -140,7 +132,7 @@ module _ {K : Type 0} {order : K → K → Ordering} (total : TotalOrder order) 
       let tail : Rising order xs = λ i d t. r (suc i) d (suc-le-suc t) in
       ⊎_elim (λ (q : order x.key e.key ≡ Less). rw (q, put_in) (rising_cons x (put_in order e xs) (ahead_put x.key e xs q ahead) (rising_put e xs tail)))
       (⊎_elim (λ (q : order x.key e.key ≡ Equal). rw (q, put_in) (rising_cons e xs (subst (λ (z : K). Ahead z xs) (total.equal_only _ _ q) ahead) tail))
-      (λ (q : order x.key e.key ≡ Greater). rw (q, put_in) (rising_cons e (x ∷ xs) (λ d t. ap is_lt (total.laws.antisymm e.key x.key ∙ ap ordering_reverse q)) r)))
+      (λ (q : order x.key e.key ≡ Greater). rw (q, put_in) (rising_cons e (x ∷ xs) (λ d t. ap is_lt (total.exchanged x.key e.key ∙ ap ordering_reverse q)) r)))
       (one_of_three (order x.key e.key))
 
   -- ---- what is found after a put
@@ -154,9 +146,9 @@ module _ {K : Type 0} {order : K → K → Ordering} (total : TotalOrder order) 
       (one_of_three (order x.key k))
 
   pub found_put : (e : Entry K) (es : List (Entry K)) → half_face_of order e.key (put_in order e es) ≡ Some e.half_face
-  found_put e [] = found_first e.key e [] (tied_itself total.laws e.key)
+  found_put e [] = found_first e.key e [] (equal_itself total e.key)
   found_put e (x ∷ xs) =
-      let here = tied_itself total.laws e.key in
+      let here = equal_itself total e.key in
       ⊎_elim (λ (q : order x.key e.key ≡ Less). rw (q, put_in) (rw (q, half_face_of) (found_put e xs)))
       (⊎_elim (λ (q : order x.key e.key ≡ Equal). rw (q, put_in) (found_first e.key e xs here))
       (λ (q : order x.key e.key ≡ Greater). rw (q, put_in) (found_first e.key e (x ∷ xs) here)))

@@ -11,7 +11,7 @@ use Rattle.index.specs.declared.entry.Entry.{Entry}
 use Rattle.index.specs.Entries.{Rising, put_in, half_face_of}
 use Rattle.index.specs.Held.{Held, parted, PutCause, full, Stored}
 use Rattle.index.specs.Search.{Sought}
-use Rattle.index.proofs.Orders.{TotalOrder}
+use Rattle.index.specs.Orders.{TotalOrder}
 use Rattle.index.proofs.Places.{less_before, put_at, put_between, found_at, none_between, rising_put, found_put, found_other}
 
 -- ---- a write among the places

@@ -1,14 +1,12 @@
 -- What an index holds, and what a put does to it.
 use Rattle.std.specs.Prelude.{◌≡◌, ℕ, ◌-◌, List, [], length, take, drop, Some, None, Result, ◌≢◌}
 use Rattle.std.specs.declared.cmp.Ordering.{Ordering}
-use Rattle.std.specs.declared.cmp.Ord
-use Rattle.std.specs.declared.cmp.PartialEq
-use Rattle.std.specs.declared.cmp.PartialOrd
 use Rattle.refusal.specs.declared.Refusal.{Refusal}
 use Rattle.refusal.specs.declared.Refusal.TheVariants.{ListTooShort}
 use Rattle.refusal.specs.Causes.{Outcome}
 use Rattle.index.specs.declared.entry.Entry.{Entry}
 use Rattle.index.specs.declared.container.Index.{Index}
+use Rattle.index.specs.declared.key.Key
 use Rattle.index.specs.Entries.{Rising, put_in, half_face_of}
 
 -- entries and the free places behind them: together all the places, in order
@@ -21,7 +19,7 @@ abbrev pub parted : {K : Type 0} → ℕ → List (Entry K) → Held K
 parted n places = record { entries = take n places; free = drop n places }
 
 -- what an index of keys with an order holds
-abbrev pub held : {K : Type 0} {order : Ord.Ghosts K} {equality : PartialEq.Ghosts K} {partial : PartialOrd.Ghosts K} → Index K order equality partial → Held K
+abbrev pub held : {K : Type 0} {order : Key.Ghosts K} → Index K order → Held K
 held index = parted index.taken index.places.now
 
 module _ {K : Type 0} (order : K → K → Ordering) where

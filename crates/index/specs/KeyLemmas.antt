@@ -1,32 +1,32 @@
--- Pairs and triples that their orders call equal are the same.
-use Rattle.std.specs.Prelude.{◌≡◌, ℕ, ◌<◌, refl}
-use Rattle.std.proofs.Common.{ap, ◌∙◌, subst}
-use Rattle.std.specs.declared.cmp.Ordering.TheVariants.{Less, Equal, Greater}
-use Rattle.std.specs.declared.cmp.Ordering.{Ordering}
-use Rattle.std.specs.Cmp.{ranks}
-use Rattle.std.specs.Ordering.{MatchOrdering, nat_cmp, ordering_then}
+-- The orders of pairs and triples are total: those that they call equal are the same.
+use Rattle.std.specs.Prelude.{◌≡◌, ℕ}
+use Rattle.std.proofs.Common.{ap}
+use Rattle.std.specs.declared.cmp.Ordering.TheVariants.{Equal}
+use Rattle.std.specs.Ordering.{nat_cmp}
 use Rattle.index.specs.Keys.{pair_order, triple_order}
+use Rattle.index.specs.Orders.{TotalOrder}
+use Rattle.index.specs.Total.{Lexical, lexical_total, number_total, total_by}
 use Rattle.index.specs.declared.keys.Pair.{Pair}
 use Rattle.index.specs.declared.keys.Triple.{Triple}
 
-pub number_identical : (a b : ℕ) → nat_cmp a b ≡ Equal → a ≡ b
-number_identical a b h = subst (λ (o : Ordering). MatchOrdering o (a < b) (a ≡ b) (b < a)) h (ranks a b)
+-- from its parts: those with the same parts are the same
+unfoldable pub pair_of : ℕ × ℕ → Pair
+pair_of p = record { first = p.0; second = p.1 }
 
-then_equal : (o p : Ordering) → ordering_then o p ≡ Equal → (o ≡ Equal) × (p ≡ Equal)
-then_equal Less p h = (cc, cc)
-then_equal Equal p h = (refl, h)
-then_equal Greater p h = (cc, cc)
+unfoldable pub triple_of : ℕ × (ℕ × ℕ) → Triple
+triple_of p = record { first = p.0; second = p.1.0; third = p.1.1 }
+
+pub pair_total : TotalOrder pair_order
+pair_total = unfold pair_of in total_by (lexical_total nat_cmp nat_cmp number_total number_total) (λ p. (p.first, p.second)) (λ p q h. ap pair_of h)
+
+pub triple_total : TotalOrder triple_order
+triple_total = unfold triple_of in
+    let rest = lexical_total nat_cmp nat_cmp number_total number_total in
+    total_by (lexical_total nat_cmp (Lexical nat_cmp nat_cmp number_total number_total) number_total rest)
+    (λ p. (p.first, (p.second, p.third))) (λ p q h. ap triple_of h)
 
 pub pair_identical : (p q : Pair) → pair_order p q ≡ Equal → p ≡ q
-pair_identical p q h =
-    let e = then_equal (nat_cmp p.first q.first) (nat_cmp p.second q.second) h in
-    ap (λ (x : ℕ). record { first = x; second = p.second }) (number_identical p.first q.first e.0)
-    ∙ ap (λ (x : ℕ). record { first = q.first; second = x }) (number_identical p.second q.second e.1)
+pair_identical = pair_total.equal_only
 
 pub triple_identical : (p q : Triple) → triple_order p q ≡ Equal → p ≡ q
-triple_identical p q h =
-    let e = then_equal (nat_cmp p.first q.first) (ordering_then (nat_cmp p.second q.second) (nat_cmp p.third q.third)) h in
-    let f = then_equal (nat_cmp p.second q.second) (nat_cmp p.third q.third) e.1 in
-    ap (λ (x : ℕ). record { first = x; second = p.second; third = p.third }) (number_identical p.first q.first e.0)
-    ∙ ap (λ (x : ℕ). record { first = q.first; second = x; third = p.third }) (number_identical p.second q.second f.0)
-    ∙ ap (λ (x : ℕ). record { first = q.first; second = q.second; third = x }) (number_identical p.third q.third f.1)
+triple_identical = triple_total.equal_only

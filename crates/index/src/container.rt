@@ -7,6 +7,7 @@ use crate::insert::insert;
 use crate::key::Key;
 use crate::keys::{Pair, Triple};
 use refusal::Refusal;
+use std::cmp::Ordering;
 
 /// Entries that rise by key, in the first places of a borrowed list.
 #[derive(Drop)]
@@ -15,7 +16,7 @@ pub struct Index<'a, K: Key> {
     places: &'a mut [Entry<K>],
     taken: usize,
     ghost within: { taken ≤ length places.now },
-    ghost rising: { Rising K.cmp (take taken places.now) },
+    ghost rising: { Rising K.order (take taken places.now) },
 }
 
 /// The index whose keys are vertex triples. Their order, which is derived, is `triple_order`.
@@ -50,16 +51,28 @@ impl<'a, K: Key> Index<'a, K> {
         &self.places[..self.taken]
     }
 
-    // The place of the key, or else the place where it belongs.
+    // The place of the key, or else the place where it belongs. By halves in a loop, since the library's search goes
+    // on where it has met the key.
     fn search(&self, key: K) -> Result<usize, usize>
-        ensures { Sought K.cmp key (held self.now).entries result }
+        ensures { Sought K.order key (held self.now).entries result }
     {
-        self.entries().binary_search_by_key(&key, |entry| entry.key)
+        let entries = self.entries();
+        let mut low = 0;
+        let mut high = entries.len();
+        while low < high {
+            let middle = low + (high - low) / 2;
+            match entries[middle].key.compare(key) {
+                Ordering::Less => low = middle + 1,
+                Ordering::Equal => return Ok(middle),
+                Ordering::Greater => high = middle,
+            }
+        }
+        Err(low)
     }
 
     /// The half-face beside the key, or none where no entry has the key.
     pub fn find(&self, key: K) -> Option<u16>
-        ensures { result ≡ half_face_of K.cmp key (held self.now).entries }
+        ensures { result ≡ half_face_of K.order key (held self.now).entries }
     {
         let at = self.search(key).ok()?;
         Some(self.places[at].half_face)
@@ -68,7 +81,7 @@ impl<'a, K: Key> Index<'a, K> {
     /// Puts the entry into its place, in place of one of an equal key. A new key with no place free is
     /// refused with `ListTooShort`, and nothing is written.
     pub fn put(&mut self, entry: Entry<K>) -> Result<(), Refusal>
-        ensures { Put K.cmp entry (held self.old) result (held self.new) }
+        ensures { Put K.order entry (held self.old) result (held self.new) }
     {
         match self.search(entry.key) {
             Ok(at) => self.places[at] = entry,

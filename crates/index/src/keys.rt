@@ -1,7 +1,9 @@
 //! The keys of edges and of triangles.
-ghost use Rattle.index.specs.KeyLemmas.{pair_identical, triple_identical};
+ghost use Rattle.index.specs.Keys.{pair_order, triple_order};
+ghost use Rattle.index.specs.KeyLemmas.{pair_total, triple_total};
 
 use crate::key::Key;
+use std::cmp::Ordering;
 
 /// Two vertices: the key of an edge. Pairs go by the first vertex, then by the second.
 #[derive(Clone, Copy, PartialEq, Eq, PartialOrd, Ord, Debug)]
@@ -11,7 +13,13 @@ pub struct Pair {
 }
 
 impl Key for Pair {
-    ghost identical = { pair_identical };
+    ghost order = { pair_order };
+
+    ghost total = { pair_total };
+
+    fn compare(self, other: Pair) -> Ordering {
+        self.cmp(&other)
+    }
 }
 
 /// Three vertices: the key of a triangle. Triples go by the first vertex, then by the second, then by
@@ -24,5 +32,11 @@ pub struct Triple {
 }
 
 impl Key for Triple {
-    ghost identical = { triple_identical };
+    ghost order = { triple_order };
+
+    ghost total = { triple_total };
+
+    fn compare(self, other: Triple) -> Ordering {
+        self.cmp(&other)
+    }
 }

@@ -10,7 +10,7 @@ use Rattle.indexes.specs.declared.rule.Side.{Side}
 use Rattle.indexes.specs.Rule.{Stands}
 use Rattle.indexes.specs.Edges.{EdgeOf, OnEdge, RatherHalf}
 use Rattle.indexes.specs.Gathered.{EdgesBefore, Before, Chosen, Offered}
-use Rattle.index.proofs.Orders.{pair_total}
+use Rattle.index.specs.KeyLemmas.{pair_total}
 use Rattle.indexes.proofs.Offers.{Added, offered, gathered_as}
 use Rattle.indexes.proofs.Rules.{rather_itself, rather_chain, rather_as}
 

@@ -2,7 +2,7 @@
 use Rattle.std.proofs.Common.{◌≡◌, ℕ, ◌+◌, ◌-◌, ◌<◌, ◌≤◌, List, [], ◌∷◌, ◌++◌, length, get_or, take, drop, Ordering, sym, ap, ◌∙◌, arith, length-drop}
 use Rattle.std.proofs.lemmas.List.{length-take-le, get_or-take, get_or_default, take_more, drop-drop}
 use Rattle.index.specs.declared.entry.Entry.{Entry}
-use Rattle.index.proofs.Orders.{TotalOrder}
+use Rattle.index.specs.Orders.{TotalOrder}
 use Rattle.index.specs.Entries.{Rising, put_in}
 use Rattle.index.specs.Search.{LessBefore}
 use Rattle.index.specs.Held.{Held, Stored}

@@ -3,6 +3,5 @@ mod Offers
 mod HandingOver
 mod Outcomes
 mod Rules
-mod Sorting
 mod Triangles
 mod EdgePairs

@@ -6,10 +6,10 @@ use Rattle.std.proofs.lemmas.Bool.{cases_lt, cases_order}
 use Rattle.rules.proofs.Crowding.{crowded}
 use Rattle.rules.proofs.Webbed.{cases_option}
 use Rattle.index.specs.declared.entry.Entry.{Entry}
-use Rattle.index.proofs.Orders.{TotalOrder}
+use Rattle.index.specs.Orders.{TotalOrder}
 use Rattle.index.specs.Entries.{Rising, put_in, half_face_of}
 use Rattle.index.specs.Search.{LessBefore}
-use Rattle.std.specs.Cmp.{tied_itself}
+use Rattle.index.specs.Total.{equal_itself}
 use Rattle.index.proofs.Places.{rising_apart, less_before, found_at}
 use Rattle.indexes.specs.Lists.{OneEach}
 use Rattle.indexes.specs.Gathered.{Finds, Gathered}
@@ -33,7 +33,7 @@ module _ {K : Type 0} {order : K → K → Ordering} (total : TotalOrder order) 
       ⊎_elim
       (λ (e : order k q ≡ Equal). inl (total.equal_only k q e))
       (λ (n : is_eq (order k q) ≡ is_eq Less). inr (λ (e : k ≡ q).
-      let here : order k q ≡ Equal = ap (order k) (sym e) ∙ tied_itself total.laws k in
+      let here : order k q ≡ Equal = ap (order k) (sym e) ∙ equal_itself total k in
       differ (sym n ∙ ap is_eq here)))
       (equal_or_not (order k q))
     where
@@ -41,7 +41,7 @@ module _ {K : Type 0} {order : K → K → Ordering} (total : TotalOrder order) 
       differ h = let z : ◌≡◌ {A = ℕ} 0 1 = cc in absurd (omega arith)
 
   key_same : (es : List (Entry K)) (i : ℕ) (d e : Entry K) → i < length es → order (get_or es i d).key (get_or es i e).key ≡ Equal
-  key_same es i d e l = ap (λ (x : Entry K). order x.key (get_or es i e).key) (get_or_default es i d e l) ∙ tied_itself total.laws (get_or es i e).key
+  key_same es i d e l = ap (λ (x : Entry K). order x.key (get_or es i e).key) (get_or_default es i d e l) ∙ equal_itself total (get_or es i e).key
 
   pub found : (es : List (Entry K)) → Rising order es → (i : ℕ) (d : Entry K) → i < length es → half_face_of order (get_or es i d).key es ≡ Some (get_or es i d).half_face
   found es r i d l =
@@ -69,7 +69,7 @@ module _ {K : Type 0} {order : K → K → Ordering} (total : TotalOrder order) 
       apart : (i j : ℕ) → i < j → j < length es → (get_or es i d).key ≡ (get_or es j d).key → ⊥
       apart i j p m e =
           let less : order (get_or es i d).key (get_or es j d).key ≡ Less = rising_apart total es r i j d p m in
-          let same : order (get_or es i d).key (get_or es j d).key ≡ Equal = ap (order (get_or es i d).key) (sym e) ∙ tied_itself total.laws (get_or es i d).key in
+          let same : order (get_or es i d).key (get_or es j d).key ≡ Equal = ap (order (get_or es i d).key) (sym e) ∙ equal_itself total (get_or es i d).key in
           let q : Less ≡ Equal = sym less ∙ same in
           let z : ◌≡◌ {A = ℕ} 0 1 = cc in omega arith
 

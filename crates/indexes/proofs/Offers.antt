@@ -3,7 +3,7 @@ use Rattle.std.proofs.Common.{◌≡◌, ℕ, ◌+◌, ◌-◌, ◌<◌, ◌≤�
 use Rattle.std.specs.Result.{IsOk}
 use Rattle.refusal.specs.declared.Refusal.{Refusal}
 use Rattle.index.specs.declared.entry.Entry.{Entry}
-use Rattle.index.proofs.Orders.{TotalOrder}
+use Rattle.index.specs.Orders.{TotalOrder}
 use Rattle.index.specs.Entries.{half_face_of}
 use Rattle.index.specs.Held.{Held, Put, Stored}
 use Rattle.index.proofs.Stores.{why_refused}

@@ -9,7 +9,7 @@ use Rattle.index.specs.Keys.{triple_order}
 use Rattle.index.specs.Held.{Held, Stored}
 use Rattle.indexes.specs.Faces.{triangle, Sorts, OnTriangle, FaceEntries}
 use Rattle.indexes.specs.Gathered.{FacesBefore, Before, Offered}
-use Rattle.index.proofs.Orders.{triple_total}
+use Rattle.index.specs.KeyLemmas.{triple_total}
 use Rattle.indexes.proofs.Lookups.{no_longer}
 use Rattle.indexes.proofs.Offers.{Added, offered, gathered_as}
 

@@ -13,7 +13,7 @@ pub(crate) fn hand_over<'p, K: Key>(
     entries: &[Entry<K>],
     places: &'p mut [Entry<K>],
 ) -> (Index<'p, K>, Result<usize, Refusal>)
-    requires { Rising K.cmp entries.now }
+    requires { Rising K.order entries.now }
     ensures { HandedOver entries.now (record { entries = []; free = places.old }) result.1 (held result.0) }
 {
     let fits = entries.len() <= places.len();

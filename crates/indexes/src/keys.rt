@@ -21,12 +21,10 @@ pub(crate) fn rising_triple(a: u16, b: u16, c: u16) -> Triple
     requires { (a ≢ b) × (b ≢ c) × (a ≢ c) }
     ensures { Sorts (record { p = a; q = b; r = c }) result }
 {
-    let mut vertices = [a, b, c];
-    vertices.sort_unstable();
-    let [first, second, third] = vertices;
+    // not by a sort, which takes its time even for three
     Triple {
-        first,
-        second,
-        third,
+        first: a.min(b).min(c),
+        second: a.min(b).max(c.min(a.max(b))),
+        third: a.max(b).max(c),
     }
 }

@@ -2,7 +2,7 @@ use Rattle.std.proofs.Common.{sym, subst}
 use Rattle.ground.specs.Grounds.{plain_sealed}
 use Rattle.index.specs.Held.{held}
 use Rattle.indexes.specs.Edges.{EdgeEntries}
-use Rattle.index.proofs.Orders.{pair_total}
+use Rattle.index.specs.KeyLemmas.{pair_total}
 use Rattle.indexes.proofs.Lookups.{no_longer}
 use Rattle.indexes.proofs.Outcomes.{makes}
 use Rattle.indexes.proofs.edges.edge_index.Goals as goal

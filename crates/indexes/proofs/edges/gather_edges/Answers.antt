@@ -3,7 +3,7 @@ use Rattle.ground.specs.Grounds.{plain_sealed}
 use Rattle.index.specs.Held.{held}
 use Rattle.indexes.specs.Edges.{OnEdge, RatherHalf}
 use Rattle.indexes.specs.Gathered.{Before}
-use Rattle.index.proofs.Orders.{pair_total}
+use Rattle.index.specs.KeyLemmas.{pair_total}
 use Rattle.indexes.proofs.Lookups.{one_each}
 use Rattle.indexes.proofs.Offers.{gathered_as}
 use Rattle.indexes.proofs.edges.gather_edges.Goals as goal

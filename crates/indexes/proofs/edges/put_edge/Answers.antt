@@ -4,7 +4,7 @@ use Rattle.index.specs.Held.{held, Stored}
 use Rattle.index.specs.Keys.{pair_order}
 use Rattle.indexes.specs.Edges.{RatherHalf}
 use Rattle.indexes.specs.Gathered.{Chosen}
-use Rattle.index.proofs.Orders.{pair_total}
+use Rattle.index.specs.KeyLemmas.{pair_total}
 use Rattle.indexes.proofs.Offers.{not_refused, stored, room_left}
 use Rattle.indexes.proofs.EdgePairs.{chosen_side}
 use Rattle.indexes.proofs.edges.put_edge.Goals as goal

@@ -3,7 +3,7 @@ use Rattle.ground.specs.Grounds.{plain_sealed}
 use Rattle.index.specs.Held.{held}
 use Rattle.indexes.specs.Faces.{OnTriangle}
 use Rattle.indexes.specs.Gathered.{Before}
-use Rattle.index.proofs.Orders.{triple_total}
+use Rattle.index.specs.KeyLemmas.{triple_total}
 use Rattle.indexes.proofs.Lookups.{one_each}
 use Rattle.indexes.proofs.Offers.{gathered_as}
 use Rattle.indexes.proofs.faces.gather_faces.Goals as goal

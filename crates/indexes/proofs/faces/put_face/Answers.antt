@@ -4,7 +4,7 @@ use Rattle.halves.specs.HalfFaces.{rows_of}
 use Rattle.index.specs.Held.{held, Stored}
 use Rattle.index.specs.Keys.{triple_order}
 use Rattle.indexes.specs.Faces.{OnTriangle}
-use Rattle.index.proofs.Orders.{triple_total}
+use Rattle.index.specs.KeyLemmas.{triple_total}
 use Rattle.indexes.proofs.Lookups.{none_from, some_from}
 use Rattle.indexes.proofs.Offers.{not_refused, stored, room_left}
 use Rattle.indexes.proofs.Triangles.{sorts_as, put_new, kept}
