@@ -39,8 +39,11 @@ fn printed(heap: Global, text: &[u8], room: usize) -> Result<Vec<u8>, Fail> {
     match check_list(text) {
         Ok(_) => answers(heap, text, room),
         Err(fault) => {
-            let line = format!(in heap; "{}\n", Answer::Bad(fault))?;
-            Ok(line.into_bytes())
+            let mut line = vec![in heap; 0; 64]?;
+            let mut out = Vec::new(heap);
+            let written = Answer::Bad(fault).write(&mut line);
+            take_line(&mut out, &line, written)?;
+            Ok(out)
         }
     }
 }
