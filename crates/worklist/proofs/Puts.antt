@@ -1,7 +1,8 @@
 -- Bytes written one after another, and how many there are. Assumes nothing.
-use Rattle.std.proofs.Common.{◌≡◌, ℕ, ◌+◌, ◌-◌, ◌<◌, ◌≤◌, List, [], ◌∷◌, ◌++◌, length, get_or, take, drop, decimal, sym, refl, ap, ◌∙◌, subst, append_assoc, append-nil, zero-add, arith, length-append, take-append-drop, drop-drop}
+use Rattle.std.proofs.Common.{◌≡◌, ℕ, ◌+◌, ◌-◌, ◌/◌, ◌%◌, ◌^◌, ◌<◌, ◌≤◌, List, [], ◌∷◌, ◌++◌, length, get_or, take, drop, set, decimal, sym, refl, ap, ◌∙◌, subst, append_assoc, append-nil, zero-add, arith, length-append, take-append-drop, drop-drop, drop-set-lt}
 use borrow.Rule.Slice.PartMut.{put_mid}
-use Rattle.std.proofs.lemmas.List.{take_more}
+use Rattle.std.proofs.lemmas.List.{take_more, take_more_set}
+use Rattle.std.proofs.lemmas.Fmt.{decimal_digit, decimal_step, length-decimal-le}
 use Rattle.std.proofs.lemmas.Slice.{take-put_mid, drop-put_mid}
 use Rattle.refusal.specs.declared.Refusal.{Refusal}
 use Rattle.refusal.specs.declared.Refusal.TheVariants.{ListTooShort}
@@ -20,6 +21,9 @@ put_part old bs part at n copied e h = record {
   back = drop-put_mid at (n - at) old part n (omega (arith, e)) (omega (arith, e, h)) (omega (arith, e, ap length copied));
 }
 
+pub put_one : (old : List ℕ) (at b : ℕ) → at < length old → Put old (set old at b) at (b ∷ []) (at + 1)
+put_one old at b h = record { end = refl; front = take_more_set old at b h; back = drop-set-lt (at + 1) old at b (omega arith) }
+
 pub put_more : (old mid new : List ℕ) (at n m : ℕ) (bs cs : List ℕ) → Put old mid at bs n → Put mid new n cs m → Put old new at (bs ++ cs) m
 put_more old mid new at n m bs cs p q = record {
   end = omega (arith, p.end, q.end, length-append bs cs);
@@ -35,6 +39,15 @@ put_more old mid new at n m bs cs p q = record {
 
 pub put_as : (old new : List ℕ) (at n : ℕ) (bs cs : List ℕ) → bs ≡ cs → Put old new at bs n → Put old new at cs n
 put_as old new at n bs cs e p = subst (λ (z : List ℕ). Put old new at z n) e p
+
+pub width_one : (n : ℕ) → n < 10 → 1 ≡ length (decimal n)
+width_one n h = sym (ap length (decimal_digit n h))
+
+pub width_more : (n : ℕ) → 10 ≤ n → n < 2 ^ 64 → length (decimal (n / 10)) + 1 ≡ length (decimal n)
+width_more n h f = omega (arith, ap length (decimal_step n h f), length-append (decimal (n / 10)) ((48 + n % 10) ∷ []))
+
+pub width_most : (n : ℕ) → n < 65536 → length (decimal n) ≤ 5
+width_most n f = let p : n < 10 ^ 5 = omega arith in length-decimal-le 5 n (omega arith) p (omega arith)
 
 spaced_append : (ns ms : List ℕ) → spaced (ns ++ ms) ≡ spaced ns ++ spaced ms
 spaced_append [] ms = refl

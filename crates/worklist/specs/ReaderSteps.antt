@@ -1,11 +1,16 @@
 -- What the inner steps of the reader answer. No contract of a public call draws on this.
-use Rattle.std.specs.Prelude.{◌≡◌, ℕ, ◌<◌, List, [], ◌∷◌, ◌++◌, length, Some, None, Ok, Err, decimal, Option, Result, ◌≢◌, slice_index}
+use Rattle.std.specs.Prelude.{◌≡◌, ℕ, ◌+◌, ◌-◌, ◌*◌, ◌<◌, List, [], ◌∷◌, ◌++◌, length, Some, None, Ok, Err, decimal, Option, Result, ◌≢◌, slice_index}
 use Rattle.std.specs.Borrow.{Bor}
 use Rattle.refusal.specs.declared.Refusal.{Refusal}
 use Rattle.worklist.specs.declared.order.Order.{Order}
 use Rattle.worklist.specs.declared.order.Order.TheVariants.{Close}
 use Rattle.worklist.specs.Lists.{Begins, Next, LineFault}
 use Rattle.worklist.specs.Written.{line_of, numbers_of, spaced, Small}
+
+-- the number that digits write after those that wrote n
+abbrev pub read_on : ℕ → List ℕ → ℕ
+read_on n [] = n
+read_on n (c ∷ cs) = read_on (n * 10 + (c - 48)) cs
 
 -- r is the number that the bytes s write, if they write one
 abbrev pub Reads : List ℕ → Option ℕ → Type 0

@@ -3,7 +3,7 @@ ghost use Rattle.std.specs.Prelude.{Some};
 ghost use Rattle.worklist.specs.AnswerLines.{said, shown, bytes_of, Lined};
 
 use crate::fault::Fault;
-use crate::put::{places_left, put, put_numbers};
+use crate::put::{places_left, put, put_byte, put_numbers};
 use refusal::Refusal;
 use std::fmt;
 
@@ -40,13 +40,14 @@ impl fmt::Display for Answer<'_> {
 
 // A word, the numbers, each after one space, and byte 10. It is not written by `Display`, since no
 // `fmt` promises to succeed where there is room.
+#[inline(always)]
 fn put_line(word: &[u8], numbers: &[u16], out: &mut [u8]) -> Result<usize, Refusal>
     ensures { Lined (said word.now numbers.now) out.old out.new result }
 {
     places_left(word, numbers, out.len()).ok_or(Refusal::ListTooShort)?;
     let end = put(out, 0, word);
     let end = put_numbers(out, end, numbers);
-    Ok(put(out, end, b"\n"))
+    Ok(put_byte(out, end, b'\n'))
 }
 
 impl Answer<'_> {

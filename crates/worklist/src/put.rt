@@ -1,10 +1,17 @@
 //! Bytes put into a line that is handed over.
-ghost use Rattle.std.specs.Prelude.{◌≡◌, ◌+◌, ◌<◌, ◌≤◌, length, MatchOption};
+ghost use Rattle.std.specs.Prelude.{◌≡◌, ◌+◌, ◌<◌, ◌≤◌, [], ◌∷◌, length, decimal, MatchOption};
 ghost use Rattle.worklist.specs.Written.{spaced};
 ghost use Rattle.worklist.specs.AnswerLines.{said};
 ghost use Rattle.worklist.specs.WriterSteps.{Put};
 
 use itoa::Buffer;
+
+// How many digits a number has. Not by writing it, since it is written again later.
+fn width(n: u16) -> usize
+    ensures { (result ≡ length (decimal n)) × (result ≤ 5) }
+{
+    if n < 10 { 1 } else { width(n / 10) + 1 }
+}
 
 // How many places a word, the numbers, each after one space, and byte 10 leave, where they fit.
 pub(crate) fn places_left(word: &[u8], numbers: &[u16], places: usize) -> Option<usize>
@@ -14,13 +21,14 @@ pub(crate) fn places_left(word: &[u8], numbers: &[u16], places: usize) -> Option
 {
     let mut left = places.checked_sub(word.len())?;
     for n in numbers {
-        left = left.checked_sub(Buffer::new().format(*n).len() + 1)?;
+        left = left.checked_sub(width(*n) + 1)?;
     }
     left.checked_sub(1)
 }
 
 // Bytes, from a place on; says the place after them. The line is the caller's, so it has a place
-// beside it where a `String` would grow.
+// beside it where a `String` would grow. Expanded where it is called: most calls put few bytes, and how many is known there.
+#[inline(always)]
 pub(crate) fn put(out: &mut [u8], at: usize, bytes: &[u8]) -> usize
     requires { at + length bytes.now ≤ length out.old }
     ensures { Put out.old out.new at bytes.now result }
@@ -30,6 +38,30 @@ pub(crate) fn put(out: &mut [u8], at: usize, bytes: &[u8]) -> usize
     end
 }
 
+// One byte.
+pub(crate) fn put_byte(out: &mut [u8], at: usize, b: u8) -> usize
+    requires { at < length out.old }
+    ensures { Put out.old out.new at (b ∷ []) result }
+{
+    out[at] = b;
+    at + 1
+}
+
+// The digits of a number. One or two are put as they come: most numbers of an answer are no longer.
+fn put_number(out: &mut [u8], at: usize, n: u16) -> usize
+    requires { at + length (decimal n) ≤ length out.old }
+    ensures { Put out.old out.new at (decimal n) result }
+{
+    if n < 10 {
+        return put_byte(out, at, b'0' + n as u8);
+    }
+    if n < 100 {
+        let last = put_byte(out, at, b'0' + (n / 10) as u8);
+        return put_byte(out, last, b'0' + (n % 10) as u8);
+    }
+    put(out, at, Buffer::new().format(n).as_bytes())
+}
+
 // Numbers, each after one space. Not by `Display`: no `fmt` promises to succeed where there is room.
 pub(crate) fn put_numbers(out: &mut [u8], at: usize, numbers: &[u16]) -> usize
     requires { at + length (spaced numbers.now) ≤ length out.old }
@@ -37,8 +69,8 @@ pub(crate) fn put_numbers(out: &mut [u8], at: usize, numbers: &[u16]) -> usize
 {
     let mut end = at;
     for n in numbers {
-        end = put(out, end, b" ");
-        end = put(out, end, Buffer::new().format(*n).as_bytes());
+        end = put_byte(out, end, b' ');
+        end = put_number(out, end, *n);
     }
     end
 }

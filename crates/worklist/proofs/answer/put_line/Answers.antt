@@ -14,5 +14,5 @@ returns c =
     let some : c.places_left.result ≡ Some c.in_ok-ok_or.field-0 = search rules in
     let room = rw some at c.places_left.ensures in (
       no_cause _ _ (omega (arith, room)),
-      holds _ _ _ _ (put_more _ _ _ _ _ _ _ _ c.put-end.ensures (put_more _ _ _ _ _ _ _ _ c.put_numbers-end.ensures c.put.ensures)),
+      holds _ _ _ _ (put_more _ _ _ _ _ _ _ _ c.put-end.ensures (put_more _ _ _ _ _ _ _ _ c.put_numbers-end.ensures c.put_byte.ensures)),
     )
