@@ -13,7 +13,7 @@ use Rattle.mates.specs.Mating.{LeadsBack}
 use Rattle.mates.proofs.EdgePlaces.{runs_one}
 use Rattle.mates.proofs.Refused.{no_mate_cause}
 use Rattle.mates.proofs.Returning.{mate_skin, mate_place_low}
-use Rattle.skin.specs.Pairing.{SkinOf, TurnBetween, Leads}
+use Rattle.skin.specs.Pairing.{SkinOf, Numbered, TurnBetween, Leads}
 use Rattle.skin.proofs.Rising.{few_below}
 use Rattle.skin.proofs.Sided.{side_item, side_place}
 
@@ -49,6 +49,9 @@ turn_so rs h e g d a b t here there same opposed = record {
 }
 
 module _ {rs : List (List ℕ)} {ks : List ℕ} (skin : SkinOf rs ks) where
+  pub skin_low : (i : ℕ) → i < length ks → get_or ks i 0 < 4096
+  skin_low i l = let few = skin.few in let half = (skin.listing.sound i l).0 in omega arith
+
   pub skin_few : length ks ≤ 4096
   skin_few = let few = skin.few in few_below skin.listing 4096 (λ h s. let half = s.0 in omega arith)
 
@@ -73,3 +76,11 @@ module _ {rs : List (List ℕ)} {ks : List ℕ} (skin : SkinOf rs ks) where
         back = λ g d n. only_back rs h e found s low back g d (at_both (λ a b. Mated rs a b g d) half place n);
         turn = at_both (λ a b. TurnBetween rs h e a b t) (sym half) (sym place) turn;
       }
+
+module _ {rs : List (List ℕ)} {ks items : List ℕ} (skin : SkinOf rs ks) (numbered : Numbered ks items) where
+  -- the item of a skin triangle
+  pub item_of : (m : ℕ) → OnSkin rs m → (get_or items m 0 < length ks) × (get_or ks (get_or items m 0) 0 ≡ m)
+  item_of m s =
+      let w = skin.listing.whole m s in
+      let e : get_or items m 0 ≡ w.0 = ap (λ (x : ℕ). get_or items x 0) (sym w.2) ∙ numbered.item w.0 w.1 in
+      (subst (λ (x : ℕ). x < length ks) (sym e) w.1, ap (λ (x : ℕ). get_or ks x 0) e ∙ w.2)

@@ -1,23 +1,10 @@
 -- Numbers listed in rising order: those below n have at most n places.
-use Rattle.std.proofs.Common.{◌≡◌, ℕ, zero, suc, ◌-◌, ◌*◌, ◌<◌, ◌≤◌, List, length, get_or, nat_cmp, Err, ap, ⊎_elim, arith}
+use Rattle.std.proofs.Common.{ℕ, zero, suc, ◌-◌, ◌*◌, ◌<◌, ◌≤◌, List, length, get_or, ⊎_elim, arith}
 use Rattle.std.proofs.lemmas.Bool.{cases_lt}
-use Rattle.std.proofs.lemmas.List.Sorted.{searched}
-use Rattle.std.specs.List.Sorted.{IsBinarySearchResult}
 use Rattle.refusal.specs.declared.Refusal.{Refusal}
 use Rattle.rules.specs.Listings.{Listing}
 use Rattle.rules.specs.Questions.{SkinCause}
 use Rattle.rules.specs.Questions.SkinCause.{short}
-
--- a search of rising numbers finds what is there
-pub never_missed : (ks : List ℕ) (h i : ℕ) → ((i j : ℕ) → i < j → j < length ks → get_or ks i 0 < get_or ks j 0) → (i : ℕ) × (i < length ks) × (get_or ks i 0 ≡ h)
-    → IsBinarySearchResult (λ y. nat_cmp y h) ks (Err i) → ⊥
-never_missed ks h i rising there sought =
-    let r = searched ks h (Err i) sought (λ i j l m. ⊎_elim (λ below. omega (arith, rising i j below m)) (λ past. same i j l past) (cases_lt i j)) in
-    let low = there.1 in let is = there.2 in
-    ⊎_elim (λ below. omega (arith, r.1 there.0 below)) (λ past. omega (arith, r.2 there.0 past low)) (cases_lt there.0 i)
-  where
-    same : (i j : ℕ) → i ≤ j → j ≤ i → get_or ks i 0 ≤ get_or ks j 0
-    same i j l m = let e : i ≡ j = omega arith in let s : get_or ks i 0 ≡ get_or ks j 0 = ap (λ (x : ℕ). get_or ks x 0) e in omega arith
 
 module _ {P : ℕ → Type 0} {ks : List ℕ} (a : Listing P ks) where
   place_below : (i : ℕ) → i < length ks → i ≤ get_or ks i 0

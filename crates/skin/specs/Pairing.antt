@@ -15,6 +15,11 @@ pub record SkinOf (rs : List (List ℕ)) (ks : List ℕ) : Type 0 where
   pub few : length rs ≤ 1024
   pub listing : Listing (OnSkin rs) ks
 
+-- each number of ks stands in `items` with its place in ks
+pub record Numbered (ks items : List ℕ) : Type 0 where
+  pub long : length items ≡ 4096
+  pub item : (i : ℕ) → i < length ks → slice_index items (slice_index ks i) ≡ i
+
 -- t is the turn between edge place e of half-face h and edge place d of half-face g
 pub record TurnBetween (rs : List (List ℕ)) (h e g d : ℕ) (t : Turn) : Type 0 where
   pub same : SameWay (reads rs h) e (reads rs g) d → t ≡ Turned

@@ -3,7 +3,7 @@ ghost use Rattle.std.specs.Prelude.{◌≡◌, ℕ, ◌*◌, ◌<◌, ◌≤◌,
 ghost use Rattle.rules.specs.SkinNets.{SkinWeb};
 ghost use Rattle.ground.specs.Grounds.{plain_sealed};
 ghost use Rattle.skin.specs.SkinTables.{skin_net_web};
-ghost use Rattle.skin.specs.Pairing.{SkinOf, Leads, LeadsAll};
+ghost use Rattle.skin.specs.Pairing.{SkinOf, Numbered, Leads, LeadsAll};
 
 use crate::directions::{edge, turn_between};
 use crate::side::Side;
@@ -26,23 +26,25 @@ fn skin_triangles(ground: &Sealed, list: &mut [u16]) -> usize
     count
 }
 
-// The item of a skin triangle: its place among them, and they rise.
-fn item_of(triangles: &[u16], h: u16) -> u16
+// The item of each skin triangle, at its half-face number, so that a mate's is read and not searched for.
+fn item_numbers(triangles: &[u16]) -> [u16; 4096]
     requires rising { (i j : ℕ) → i < j → j < length triangles.now → slice_index triangles.now i < slice_index triangles.now j }
+    requires near { (i : ℕ) → i < length triangles.now → slice_index triangles.now i < 4096 }
     requires few { length triangles.now ≤ 4096 }
-    requires there { (i : ℕ) × (i < length triangles.now) × (slice_index triangles.now i ≡ h) }
-    ensures { (result < length triangles.now) × (slice_index triangles.now result ≡ h) }
+    ensures { Numbered triangles.now result }
 {
-    let Ok(item) = triangles.binary_search(&h) else {
-        unreachable()
-    };
-    item as u16
+    let mut items = [0; 4096];
+    for (i, h) in triangles.iter().enumerate() {
+        items[*h as usize] = i as u16;
+    }
+    items
 }
 
 // Where side k leads: edge place k % 3 of skin triangle k / 3. The ground and its skin triangles are no struct:
 // what holds of the triangles finds an index, and no ghost field takes that.
-fn side(ground: &Sealed, triangles: &[u16], k: usize) -> Side
+fn side(ground: &Sealed, triangles: &[u16], items: &[u16], k: usize) -> Side
     requires skin { SkinOf (plain_sealed ground.now).list triangles.now }
+    requires items { Numbered triangles.now items.now }
     requires near { k < 3 * length triangles.now }
     ensures { Leads (plain_sealed ground.now).list triangles.now k result }
 {
@@ -54,14 +56,15 @@ fn side(ground: &Sealed, triangles: &[u16], k: usize) -> Side
         unreachable()
     };
     Side {
-        mate: 3 * item_of(triangles, there.half_face) + there.place,
+        mate: 3 * items[there.half_face as usize] + there.place,
         turn: turn_between(edge(ground, here), edge(ground, there)),
     }
 }
 
 // Where each side leads.
-fn all_sides(ground: &Sealed, triangles: &[u16]) -> [Side; 12288]
+fn all_sides(ground: &Sealed, triangles: &[u16], items: &[u16]) -> [Side; 12288]
     requires skin { SkinOf (plain_sealed ground.now).list triangles.now }
+    requires items { Numbered triangles.now items.now }
     requires few { length triangles.now ≤ 4096 }
     ensures { LeadsAll (plain_sealed ground.now).list triangles.now (3 * length triangles.now) result }
 {
@@ -72,7 +75,7 @@ fn all_sides(ground: &Sealed, triangles: &[u16]) -> [Side; 12288]
     // By its index: of an array of its own that `iter_mut` goes over a proof knows nothing, and with
     // `array::from_fn` it was not found that each side is what `side` told.
     for k in 0..3 * triangles.len() {
-        sides[k] = side(ground, triangles, k);
+        sides[k] = side(ground, triangles, items, k);
     }
     sides
 }
@@ -86,6 +89,7 @@ pub fn skin_net(ground: &Sealed) -> SkinNet
     let mut list = [0; 4096];
     let count = skin_triangles(ground, &mut list);
     let triangles = &list[..count];
-    let sides = all_sides(ground, triangles);
+    let items = item_numbers(triangles);
+    let sides = all_sides(ground, triangles, &items);
     SkinNet { count, sides }
 }

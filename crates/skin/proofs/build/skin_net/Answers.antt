@@ -3,9 +3,13 @@ use Rattle.std.proofs.lemmas.List.{length-take-le}
 use Rattle.ground.specs.Grounds.{plain_sealed}
 use Rattle.rules.specs.SkinNets.{SkinWeb}
 use Rattle.skin.specs.SkinTables.{side_web}
-use Rattle.skin.proofs.Paired.{skin_few}
+use Rattle.skin.proofs.Paired.{skin_low, skin_few}
 use Rattle.skin.proofs.SkinWebs.{all_near, all_back, skin_web}
 use Rattle.skin.proofs.build.skin_net.Goals as goal
+
+pub item_numbers-items-requires : goal.item_numbers-items-requires
+item_numbers-items-requires c =
+    let skin = c.skin_triangles-count.ensures.skin in record { rising = skin.listing.rising; near = skin_low skin; few = skin_few skin }
 
 pub invariant_of-result : goal.invariant_of-result
 invariant_of-result c =
