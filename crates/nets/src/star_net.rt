@@ -41,11 +41,13 @@ impl Net for StarNet<'_, '_> {
     }
 
     fn join(&self, item: usize, side: usize) -> Option<Place> {
+        // first whether the side is joined: an open one need not be read
+        let joined = self.ground.turn_net().join(item, side)?;
         let crossed = HalfFace::at(self.ground, item, side)?;
         if !holds(crossed, self.v, self.w) {
             return None;
         }
-        self.ground.turn_net().join(item, side)
+        Some(joined)
     }
 
     fn step(&self, _item: usize, _side: usize) -> Turn {
