@@ -48,6 +48,11 @@ pub(crate) fn ask<L>(ground: &Sealed, question: Question, desk: &mut Desk<L>) ->
             let net = corner_net(ground);
             carry_over(&net, desk.corners, k, desk.marks, m)
         }
-        Question::CarrySkin(k, m) => carry_over(&skin_net(ground), desk.turns, k, desk.marks, m),
+        Question::CarrySkin(k, m) => {
+            // before the net, which is built from walks round the edges
+            let _ = k.within(desk.turns.len())?;
+            let _ = m.within(desk.marks.len())?;
+            carry_over(&skin_net(ground), desk.turns, k, desk.marks, m)
+        }
     }
 }

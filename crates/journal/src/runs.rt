@@ -1,19 +1,33 @@
 //! One call after the other, as a journal has them.
-ghost use Rattle.std.specs.Prelude.{◌≡◌, ℕ, min, Bool, length};
-ghost use Rattle.ground.specs.Grounds.{plain};
+ghost use Rattle.std.specs.Prelude.{◌≡◌, ℕ, min, Bool, true, length};
+ghost use Rattle.ground.specs.Grounds.{plain, plain_sealed};
 ghost use Rattle.journal.specs.States.{made, standing, net_of, state_of};
 ghost use Rattle.journal.specs.Stages.{ground_of};
 ghost use Rattle.journal.specs.Steps.{Step};
+ghost use Rattle.journal.specs.Tries.{Asks};
 ghost use Rattle.journal.specs.Promise.{Promise, Replayed};
 
-use crate::calls::{Answer, Call, Exchange, Reply};
+use crate::calls::{Answer, Call, Exchange, Question, Reply};
 use crate::change::alter;
 use crate::desk::Desk;
 use crate::parts::carry_over;
 use crate::question::ask;
 use crate::stage::Stage;
 use carry::{Label, Net};
-use ground::{Cell, Open, make};
+use ground::{Cell, Open, Sealed, make};
+
+// A question, with the ground that it was asked of.
+fn questioned<'a, L>(
+    ground: Sealed<'a>,
+    question: Question,
+    desk: &mut Desk<L>,
+) -> (Stage<'a>, Reply)
+    ensures asks { Asks (ground_of result.0).plain desk.old question result.1 desk.new }
+    ensures stands { ground_of result.0 ≡ standing true (plain_sealed ground.entry) }
+{
+    let reply = ask(&ground, question, desk);
+    (Stage::Sealed(ground), reply)
+}
 
 // One call, if the ground allows it.
 fn step<'a, N: Net>(
@@ -32,14 +46,13 @@ fn step<'a, N: Net>(
             let reply = alter(&mut ground, change, desk);
             (Stage::Open(ground), reply)
         }
-        (Stage::Open(ground), Call::Seal) => (Stage::Sealed(ground.seal()), Some(Ok(Answer::Done))),
+        (Stage::Open(ground), Call::Seal) => (Stage::Unasked(ground), Some(Ok(Answer::Done))),
+        (Stage::Unasked(ground), Call::Reopen) => (Stage::Open(ground), Some(Ok(Answer::Done))),
         (Stage::Sealed(ground), Call::Reopen) => {
             (Stage::Open(ground.reopen()), Some(Ok(Answer::Done)))
         }
-        (Stage::Sealed(ground), Call::Ask(question)) => {
-            let reply = ask(&ground, question, desk);
-            (Stage::Sealed(ground), reply)
-        }
+        (Stage::Unasked(ground), Call::Ask(question)) => questioned(ground.seal(), question, desk),
+        (Stage::Sealed(ground), Call::Ask(question)) => questioned(ground, question, desk),
         (ground, _) => (ground, None),
     }
 }

@@ -5,10 +5,12 @@ ghost use Rattle.journal.specs.Stages.{ground_of};
 
 use ground::{Open, Sealed};
 
-// Open or sealed.
+// Open or sealed. The ground counts its cells where it is sealed, so that waits for the first question.
 #[derive(Drop)]
 pub(crate) enum Stage<'a> {
     Open(Open<'a>),
+    // sealed, with nothing asked yet
+    Unasked(Open<'a>),
     Sealed(Sealed<'a>),
 }
 
@@ -18,7 +20,7 @@ impl<'a> Stage<'a> {
         ensures { plain result ≡ (ground_of self.entry).plain }
     {
         match self {
-            Stage::Open(ground) => ground,
+            Stage::Open(ground) | Stage::Unasked(ground) => ground,
             Stage::Sealed(ground) => ground.reopen(),
         }
     }
