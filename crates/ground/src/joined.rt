@@ -29,11 +29,13 @@ impl<'c> Joined<'c> {
         read(self.records[h / 4].corners, h % 4)
     }
 
-    // The half-face that is stored as the opposite of h; past the places, none.
+    // The half-face that is stored as the opposite of h. The counts and the skin ask it of each half-face, so its
+    // place is not tested again.
     pub(crate) fn opposite(&self, h: usize) -> Option<u16>
+        requires { h / 4 < length self.now.records.now }
         ensures { result ≡ join_at self.now.records.now h }
     {
-        self.records.get(h / 4)?.joins[h % 4]
+        self.records[h / 4].joins[h % 4]
     }
 
     // The half-face that half-face `side` of the cell `item` is joined to; out of range, none. An item and a

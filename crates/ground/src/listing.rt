@@ -74,6 +74,7 @@ impl Joined<'_> {
 
     // Whether half-face h is open.
     fn is_open(&self, h: usize) -> bool
+        requires { h < 4 * self.now.count }
         ensures { result ≡ open_at self.now.records.now h }
     {
         self.opposite(h).is_none()
@@ -81,6 +82,7 @@ impl Joined<'_> {
 
     // Whether half-face h is joined to a higher one.
     fn is_lower(&self, h: usize) -> bool
+        requires { h < 4 * self.now.count }
         ensures { result ≡ lower_at self.now.records.now h }
     {
         self.opposite(h).is_some_and(|g| h < g as usize)

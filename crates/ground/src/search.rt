@@ -80,7 +80,8 @@ impl Joined<'_> {
         let Some(g) = whom else {
             return false;
         };
-        self.opposite(g as usize).is_some()
+        let h = g as usize;
+        h / 4 < self.records.len() && self.opposite(h).is_some()
     }
 
     // Whether one of the half-faces has an opposite.
