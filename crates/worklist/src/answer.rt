@@ -39,7 +39,7 @@ impl fmt::Display for Answer<'_> {
 }
 
 // A word, the numbers, each after one space, and byte 10. It is not written by `Display`, since no
-// `fmt` promises to succeed where there is room.
+// `fmt` promises to succeed where there is room. Expanded for each word, as `put` is.
 #[inline(always)]
 fn put_line(word: &[u8], numbers: &[u16], out: &mut [u8]) -> Result<usize, Refusal>
     ensures { Lined (said word.now numbers.now) out.old out.new result }

@@ -47,7 +47,7 @@ pub(crate) fn put_byte(out: &mut [u8], at: usize, b: u8) -> usize
     at + 1
 }
 
-// The digits of a number. One or two are put as they come: most numbers of an answer are no longer.
+// The digits of a number. One or two are put as they come, since to write and copy them would take longer.
 fn put_number(out: &mut [u8], at: usize, n: u16) -> usize
     requires { at + length (decimal n) ≤ length out.old }
     ensures { Put out.old out.new at (decimal n) result }
