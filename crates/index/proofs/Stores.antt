@@ -22,9 +22,10 @@ take_set (suc n) [] i x = refl
 take_set (suc n) (y ∷ ys) zero x = refl
 take_set (suc n) (y ∷ ys) (suc i) x = ap (λ (t : List _). y ∷ t) (take_set n ys i x)
 
--- the entries from the place p up to n moved on by one place, and x written at p
-pub inserted : {X : Type 0} (ps : List X) (p n : ℕ) (x : X) → p ≤ n → n < length ps → set (copy_within ps p n (p + 1)) p x ≡ insert (take n ps) p x ++ drop (n + 1) ps
-inserted ps p n x h l =
+-- the entries from the place p up to n moved on by one place, and x written at p, however the two places of the move are told
+pub inserted : {X : Type 0} (ps : List X) (p n : ℕ) (x : X) {from to : ℕ} → from ≡ p → to ≡ p + 1 → p ≤ n → n < length ps
+    → set (copy_within ps from n to) p x ≡ insert (take n ps) p x ++ drop (n + 1) ps
+inserted ps p n x {from} {to} same_from same_to h l =
     let m : ℕ = n - p in
     let q : p + m ≡ n = omega arith in
     let e : p + 1 + m ≡ n + 1 = omega arith in
@@ -36,7 +37,9 @@ inserted ps p n x h l =
     let here' : p < length (take (p + 1) ps ++ moved) = omega (arith, length-append (take (p + 1) ps) moved) in
     let before : take p (take n ps) ≡ take p ps = take-take p n ps h in
     let behind : drop p (take n ps) ≡ moved = subst (λ (z : ℕ). drop p (take z ps) ≡ moved) q (drop-take p m ps) in
-    set-append_left (take (p + 1) ps ++ moved) rest p x here'
+    ap (λ (z : ℕ). set (copy_within ps z n to) p x) same_from
+    ∙ ap (λ (z : ℕ). set (copy_within ps p n z) p x) same_to
+    ∙ set-append_left (take (p + 1) ps ++ moved) rest p x here'
     ∙ ap (λ (z : List _). z ++ rest) (set-append_left (take (p + 1) ps) moved p x here)
     ∙ ap (λ (z : List _). z ++ moved ++ rest) (sym (take_set (p + 1) ps p x) ∙ take_more_set ps p x lt)
     ∙ ap (λ (z : List _). z ++ rest) (append_assoc (take p ps) (x ∷ []) moved)

@@ -2,9 +2,12 @@ use Rattle.std.proofs.Common.{◌≡◌, ℕ, List, sym, ◌∙◌, subst, ⊎_e
 use Rattle.std.proofs.lemmas.Bool.{both_ways}
 use Rattle.std.proofs.lemmas.Result.{err_from_is_err_and}
 use denote.Ref.{Bor}
+use Rattle.refusal.specs.declared.Refusal.{Refusal}
+use Rattle.refusal.specs.Causes.{First}
 use Rattle.ground.specs.declared.stage.Sealed.{Sealed}
 use Rattle.ground.specs.Grounds.{plain_sealed}
 use Rattle.rules.specs.Joins.{Half, Joined, OnSkin, LawfulRows}
+use Rattle.rules.specs.Questions.{HalfCause}
 use Rattle.rules.specs.Mates.{Mated}
 use Rattle.rules.specs.NetTests.{opposite}
 use Rattle.rules.proofs.Opposites.{opposite_joined, joined_opposite}
@@ -23,6 +26,10 @@ asked : (sealed : Bor Sealed) (h e : ℕ) (here : HalfFace) (place : EdgePlace) 
     → (P : List (List ℕ) → ℕ → ℕ → Type 0) → P (rows_of here) here.number place.number → P (plain_sealed sealed.now).list h e
 asked sealed h e here place g n p P x =
     subst (P (plain_sealed sealed.now).list h) p (said_of (λ (rs : List (List ℕ)) (k : ℕ). P rs k place.number) here sealed h g n x)
+
+-- what refuses a half-face refuses it under the number that was asked
+same_half : {rs : List (List ℕ)} {h k : ℕ} {r : Refusal} → k ≡ h → First (HalfCause rs k) r → First (HalfCause rs h) r
+same_half {rs} {h} {k} {r} q f = subst (λ (n : ℕ). First (HalfCause rs n) r) q f
 
 -- a half-face that is not open is joined
 joined_or_open : (rs : List (List ℕ)) (h : ℕ) → LawfulRows rs → Half rs h → (OnSkin rs h → ⊥) → (g : ℕ) × Joined rs h g
@@ -45,7 +52,7 @@ returns-in_err-here-clause-tells c =
     let p = err_from_is_err_and c.from_residual-in_err-here.result c.from_residual-in_err-here.ensures.1 in
     let low = c.in_ok-place.place.low in
     let same = c.in_ok-place.ensures.1 in
-    rw (p.1, p.2) (half_first (plain_sealed c.args.ground.now).list c.args.h c.args.place (omega arith) _ c.in_err-here.ensures)
+    rw (p.1, p.2) (half_first (plain_sealed c.args.ground.now).list c.args.h c.args.place (omega arith) _ (same_half (omega arith) c.in_err-here.ensures))
 
 pub returns-in_err-here-clause-opposed : goal.returns-in_err-here-clause-opposed
 returns-in_err-here-clause-opposed c = mates_opposed (plain_sealed c.args.ground.now).list c.counts.ensures.lawful
@@ -57,7 +64,7 @@ returns-then-not-is_open c =
     let low = c.in_ok-place.place.low in
     let same = c.in_ok-place.ensures.1 in
     let here = c.in_ok-here.ensures.1 in
-    let at = asked c.args.ground c.args.h c.args.place c.in_ok-here.here c.in_ok-place.place here.0 here.1 same in
+    let at = asked c.args.ground c.args.h c.args.place c.in_ok-here.here c.in_ok-place.place here.0 (omega arith) same in
     let half = at (λ rs h _. Half rs h) c.in_ok-here.here.present in
     let closed = at (λ rs h _. OnSkin rs h → ⊥) (λ o. both_ways c.is_open.result c.if-not-is_open.true (c.is_open.ensures.1 o)) in
     let j = joined_or_open rs c.args.h law half closed in
@@ -74,7 +81,7 @@ returns c =
     let same = c.in_ok-place.ensures.1 in
     let here = c.in_ok-here.ensures.1 in
     let m = c.mate_at.result in
-    let at = asked c.args.ground c.args.h c.args.place c.in_ok-here.here c.in_ok-place.place here.0 here.1 same in
+    let at = asked c.args.ground c.args.h c.args.place c.in_ok-here.here c.in_ok-place.place here.0 (omega arith) same in
     let skin = at (λ rs h _. OnSkin rs h) (c.is_open.ensures.0 c.if-not-is_open.false) in
     let mated = at (λ rs h e. Mated rs h e m.half_face m.place) c.mate_at.ensures in
     record {
