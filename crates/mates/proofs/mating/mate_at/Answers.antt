@@ -13,4 +13,4 @@ place_of-requires c =
     let here = c.args.here in let edge = c.edge-edge.result in let there = c.walk-there.result in
     subst (λ (rs : List (List ℕ)). Spans (reads rs there.number) edge.from edge.to) (sym (same_rows there here c.walk-there.ensures.ground))
     (mate_spans (rows_of here) edge.from edge.to here.number there.number
-    (runs_spans (reads (rows_of here) here.number) c.args.place.number edge.from edge.to (reads_apart (rows_of here) here.lawful here.number here.present) c.edge-edge.ensures).2 c.walk-there.ensures.mate)
+    (runs_spans (reads (rows_of here) here.number) _ edge.from edge.to (reads_apart (rows_of here) here.lawful here.number here.present) c.edge-edge.ensures).2 c.walk-there.ensures.mate)
